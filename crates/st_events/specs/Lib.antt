@@ -1,0 +1,4 @@
+pub mod Journal
+pub mod Ran
+pub mod Shape
+pub mod Sizes

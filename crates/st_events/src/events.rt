@@ -1,0 +1,66 @@
+//! The events of a heap. The place of an event in a journal, from 0, is its ticket.
+
+/// A place in a source text.
+#[derive(Clone, Copy, Debug, PartialEq, Eq)]
+pub struct Site {
+    /// From 1; a line ends with byte 10.
+    pub line: u32,
+    /// In bytes, from 1.
+    pub column: u32,
+}
+
+/// The values that a check takes at its launch, in the order in which its expression first names the locals.
+#[derive(Clone, Copy, Debug, PartialEq, Eq)]
+pub struct Args {
+    /// How many of the words are used, at most 4.
+    pub count: u8,
+    /// The values; words from `count` on are 0.
+    pub words: [u64; 4],
+}
+
+/// One step of the heap. `m` is the number of the mutator that made it, from 0 in the order of the thread blocks;
+/// the number equal to the number of mutators is the main thread's, which only retires checks.
+#[derive(Clone, Copy, Debug, PartialEq, Eq)]
+pub enum Event {
+    /// `m` made the object `obj` of class `class`, from 1, with all fields 0.
+    New {
+        m: u8,
+        obj: u32,
+        class: u8,
+    },
+    /// `m` read `value` in field `field`, from 0, of object `obj`.
+    Load {
+        m: u8,
+        obj: u32,
+        field: u8,
+        value: u64,
+    },
+    /// `m` wrote `value`.
+    Store {
+        m: u8,
+        obj: u32,
+        field: u8,
+        value: u64,
+    },
+    /// `m` compared the word with `expect`, and wrote `value` exactly where `done`.
+    Cas {
+        m: u8,
+        obj: u32,
+        field: u8,
+        expect: u64,
+        value: u64,
+        done: bool,
+    },
+    /// `m` launched check `number`, from 1, whose statement has the number `site`, from 0 in source order.
+    Launch {
+        m: u8,
+        number: u32,
+        site: u16,
+        args: Args,
+    },
+    /// `m` retired check `number`, which is active from its launch up to here.
+    Retire {
+        m: u8,
+        number: u32,
+    },
+}

@@ -1,0 +1,19 @@
+//! What every other crate speaks of: events of the heap, verdicts, ends, the sizes of a run and its journal.
+//! Plain types and their definitions; nothing here runs a program.
+#![tactic(auto)]
+
+mod events;
+mod journals;
+mod limits;
+mod refusals;
+mod runs;
+mod shapes;
+mod verdicts;
+
+pub use events::{Args, Event, Site};
+pub use journals::Journal;
+pub use limits::Sizes;
+pub use refusals::{Lost, NoLane, NoMemory};
+pub use runs::Ran;
+pub use shapes::{Kind, Shape};
+pub use verdicts::{End, Plain, Verdict};
