@@ -5,6 +5,7 @@
 mod events;
 mod journals;
 mod limits;
+mod reasons;
 mod refusals;
 mod runs;
 mod shapes;
@@ -13,6 +14,7 @@ mod verdicts;
 pub use events::{Args, Event, Site};
 pub use journals::Journal;
 pub use limits::Sizes;
+pub use reasons::Why;
 pub use refusals::{Lost, NoLane, NoMemory};
 pub use runs::Ran;
 pub use shapes::{Kind, Shape};

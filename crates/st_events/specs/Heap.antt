@@ -1,0 +1,49 @@
+use Rattle.std.specs.Prelude.{ℕ, ◌==◌, cond, List, [], map, slice_get, slice_set, Option, Some, None, option_map, unwrap_or}
+use Rattle.st_events.specs.declared.shapes.Kind.{Kind}
+use Rattle.st_events.specs.Shape.{ShapeLists}
+
+-- an object: the number of its class, and one word for each field of that class
+pub record Object : Type 0 where
+  pub class : ℕ
+  pub words : List ℕ
+
+-- a heap: the object that stands at each number, where one was made. Number 0 is null, and object 1 is the shared one
+abbrev pub Heap : Type 0
+Heap = ℕ → Option Object
+
+-- the word of a field of what stands there
+abbrev pub word_of : Option Object → ℕ → Option ℕ
+word_of None field = None
+word_of (Some x) field = slice_get x.words field
+
+-- the word of a cell, which is an object and a field
+abbrev pub word_at : Heap → ℕ → ℕ → Option ℕ
+word_at heap obj field = word_of (heap obj) field
+
+-- the class of an object
+abbrev pub class_at : Heap → ℕ → Option ℕ
+class_at heap obj = option_map (λ x. x.class) (heap obj)
+
+-- the heap with this object at this number
+abbrev pub with_object : Heap → ℕ → Object → Heap
+with_object heap obj x = λ o. cond (o == obj) (Some x) (heap o)
+
+-- the object with one word set
+abbrev pub set_word : ℕ → ℕ → Object → Object
+set_word field value x = record x { words = slice_set x.words field value }
+
+-- the heap with one word of an object set
+abbrev pub with_word : Heap → ℕ → ℕ → ℕ → Heap
+with_word heap obj field value = λ o. cond (o == obj) (option_map (set_word field value) (heap o)) (heap o)
+
+-- the kinds of the fields of a class; none where the class is not declared
+abbrev pub kinds_of : ShapeLists → ℕ → List Kind
+kinds_of shape class = unwrap_or (slice_get shape.classes class) []
+
+-- a new object of a class: every word is 0
+abbrev pub fresh : ShapeLists → ℕ → Object
+fresh shape class = record { class = class; words = map (λ _. 0) (kinds_of shape class) }
+
+-- the heap before the first event: the shared object alone, of class 0
+abbrev pub first_heap : ShapeLists → Heap
+first_heap shape = λ o. cond (o == 1) (Some (fresh shape 0)) None

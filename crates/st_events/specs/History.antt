@@ -1,0 +1,65 @@
+use Rattle.std.specs.Prelude.{ℕ, ◌+◌, ◌==◌, Bool, true, false, List, length, filter, Option}
+use Rattle.st_events.specs.declared.events.Event.{Event}
+use Rattle.st_events.specs.declared.events.Event.TheVariants.{New, Load, Store, Cas, Launch, Retire}
+use Rattle.st_events.specs.declared.limits.Sizes.{Sizes}
+use Rattle.st_events.specs.Shape.{ShapeLists}
+use Rattle.st_events.specs.Heap.{Heap}
+use Rattle.st_events.specs.World.{Launched, Row, Pair, world_after, needing_in}
+
+-- the heap after a journal
+abbrev pub heap_after : ShapeLists → Sizes → List Event → Heap
+heap_after shape sizes es = (world_after shape sizes es).heap
+
+-- how many checks were launched
+abbrev pub epoch_of : ShapeLists → Sizes → List Event → ℕ
+epoch_of shape sizes es = (world_after shape sizes es).epoch
+
+-- the epoch at the New or the last change of the object, whichever is later
+abbrev pub stamp_of : ShapeLists → Sizes → List Event → ℕ → ℕ
+stamp_of shape sizes es obj = (world_after shape sizes es).stamp obj
+
+-- the checks that were launched and not retired, in the order of their launches
+abbrev pub active_checks : ShapeLists → Sizes → List Event → List ℕ
+active_checks shape sizes es = (world_after shape sizes es).active
+
+-- the active checks that need a copy of the object where it changes next
+abbrev pub needing : ShapeLists → Sizes → List Event → ℕ → List ℕ
+needing shape sizes es obj = needing_in (world_after shape sizes es) obj
+
+-- the copies kept, one row for each
+abbrev pub kept_rows : ShapeLists → Sizes → List Event → List Row
+kept_rows shape sizes es = (world_after shape sizes es).kept
+
+-- the versions lost, a pair of object and check for each
+abbrev pub lost_pairs : ShapeLists → Sizes → List Event → List Pair
+lost_pairs shape sizes es = (world_after shape sizes es).lost
+
+-- the launch of a check, if it was launched
+abbrev pub launch_of : ShapeLists → Sizes → List Event → ℕ → Option Launched
+launch_of shape sizes es number = (world_after shape sizes es).launched number
+
+-- whether the event is an own one of the thread; a Retire is nobody's own
+abbrev pub is_own : ℕ → Event → Bool
+is_own thread (New m obj class) = m == thread
+is_own thread (Load m obj field value) = m == thread
+is_own thread (Store m obj field value) = m == thread
+is_own thread (Cas m obj field expect value done) = m == thread
+is_own thread (Launch m number site args) = m == thread
+is_own thread (Retire m number) = false
+
+-- the thread's own events, in order
+abbrev pub own_events : ℕ → List Event → List Event
+own_events thread es = filter (is_own thread) es
+
+-- whether the event makes an object
+abbrev pub is_new : Event → Bool
+is_new (New m obj class) = true
+is_new (Load m obj field value) = false
+is_new (Store m obj field value) = false
+is_new (Cas m obj field expect value done) = false
+is_new (Launch m number site args) = false
+is_new (Retire m number) = false
+
+-- how many objects a journal has: the shared one, and one for each New
+abbrev pub objects_of : List Event → ℕ
+objects_of es = 1 + length (filter is_new es)
