@@ -1,1 +1,3 @@
+mod AllLemmas
 mod Examples
+mod ShapeLemmas

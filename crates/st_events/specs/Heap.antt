@@ -1,6 +1,7 @@
-use Rattle.std.specs.Prelude.{ℕ, ◌==◌, cond, List, [], map, slice_get, slice_set, Option, Some, None, option_map, unwrap_or}
+use Rattle.std.specs.Prelude.{ℕ, ◌==◌, cond, List, [], map, slice_get, slice_set, Option, Some, None, option_map}
+use Rattle.std.specs.Option.{option_flatten}
 use Rattle.st_events.specs.declared.shapes.Kind.{Kind}
-use Rattle.st_events.specs.Shape.{ShapeLists}
+use Rattle.st_events.specs.Shape.{ShapeLists, kinds_of}
 
 -- an object: the number of its class, and one word for each field of that class
 pub record Object : Type 0 where
@@ -36,10 +37,6 @@ set_word field value x = record x { words = slice_set x.words field value }
 abbrev pub with_word : Heap → ℕ → ℕ → ℕ → Heap
 with_word heap obj field value = λ o. cond (o == obj) (option_map (set_word field value) (heap o)) (heap o)
 
--- the kinds of the fields of a class; none where the class is not declared
-abbrev pub kinds_of : ShapeLists → ℕ → List Kind
-kinds_of shape class = unwrap_or (slice_get shape.classes class) []
-
 -- a new object of a class: every word is 0
 abbrev pub fresh : ShapeLists → ℕ → Object
 fresh shape class = record { class = class; words = map (λ _. 0) (kinds_of shape class) }
@@ -47,3 +44,7 @@ fresh shape class = record { class = class; words = map (λ _. 0) (kinds_of shap
 -- the heap before the first event: the shared object alone, of class 0
 abbrev pub first_heap : ShapeLists → Heap
 first_heap shape = λ o. cond (o == 1) (Some (fresh shape 0)) None
+
+-- the heap of a list that has at each number the object, if one was made; past its end there is none
+abbrev pub heap_of : List (Option Object) → Heap
+heap_of objects obj = option_flatten (slice_get objects obj)

@@ -8,8 +8,8 @@ use Rattle.st_events.specs.declared.reasons.Why.{Why}
 use Rattle.st_events.specs.declared.reasons.Why.TheVariants.{WrongThread, WrongObject, WrongField, WrongNumber, WrongSite, WrongValue, WrongDone, NoLane}
 use Rattle.st_events.specs.declared.shapes.Kind.{Kind}
 use Rattle.st_events.specs.declared.shapes.Kind.TheVariants.{Int, Bool as Truth, Ref}
-use Rattle.st_events.specs.Shape.{ShapeLists}
-use Rattle.st_events.specs.Heap.{Heap, Object, class_at, word_at, kinds_of}
+use Rattle.st_events.specs.Shape.{ShapeLists, kinds_of}
+use Rattle.st_events.specs.Heap.{Heap, Object, class_at, word_at}
 use Rattle.st_events.specs.World.{World, next, first_world, world_after}
 
 -- whether the object exists

@@ -1,6 +1,8 @@
 pub mod Heap
+pub mod HeapCell
 pub mod History
 pub mod Journal
+pub mod Kind
 pub mod Legal
 pub mod Ran
 pub mod Shape

@@ -3,6 +3,7 @@
 #![tactic(auto)]
 
 mod events;
+mod heaps;
 mod journals;
 mod limits;
 mod reasons;
@@ -12,6 +13,7 @@ mod shapes;
 mod verdicts;
 
 pub use events::{Args, Event, Site};
+pub use heaps::HeapMap;
 pub use journals::Journal;
 pub use limits::Sizes;
 pub use reasons::Why;

@@ -1,5 +1,5 @@
 //! The sizes of a run, and the table of their limits.
-ghost use Rattle.std.specs.Prelude.{◌↔◌, IsTrue};
+ghost use Rattle.std.specs.Prelude.{◌≡◌, ◌≤◌, ◌↔◌, IsTrue};
 
 /// The most threads that a program may have.
 pub const MOST_MUTATORS: u8 = 8;
@@ -13,6 +13,17 @@ pub const MOST_COPIES: u32 = 1_048_576;
 pub const MOST_EVENTS: u32 = 1_048_576;
 /// The most predicate calls of one check.
 pub const MOST_CALLS: u32 = 1_000_000;
+
+/// How many checks may be active at a time where nothing else is asked for.
+pub const USUAL_LANES: u8 = 8;
+/// How many objects each mutator may make where nothing else is asked for.
+pub const USUAL_OBJECTS: u32 = 4_096;
+/// The pool of copies where nothing else is asked for.
+pub const USUAL_COPIES: u32 = 4_096;
+/// The charge of each mutator where nothing else is asked for.
+pub const USUAL_EVENTS: u32 = 65_536;
+/// The budget of each check where nothing else is asked for.
+pub const USUAL_CALLS: u32 = 100_000;
 
 /// The sizes of a run.
 #[derive(Clone, Copy, Debug, PartialEq, Eq)]
@@ -32,7 +43,23 @@ pub struct Sizes {
 }
 
 impl Sizes {
-    ghost use Rattle.st_events.specs.Sizes.{AreWithinLimits};
+    ghost use Rattle.st_events.specs.Sizes.{AreWithinLimits, usual_sizes};
+
+    /// The sizes of a program with so many threads, where nothing else is asked for.
+    pub fn usual(mutators: u8) -> Sizes
+        requires { mutators ≤ MOST_MUTATORS }
+        ensures usual { result ≡ usual_sizes mutators }
+        ensures fits { AreWithinLimits result }
+    {
+        Sizes {
+            mutators,
+            lanes: USUAL_LANES,
+            objects: USUAL_OBJECTS,
+            copies: USUAL_COPIES,
+            events: USUAL_EVENTS,
+            calls: USUAL_CALLS,
+        }
+    }
 
     /// Whether each number is within the table of limits.
     pub fn fits(&self) -> bool
