@@ -1,0 +1,15 @@
+//! Numbers of the words of the shared table. Each word has a name, and distinct names have distinct words.
+//! Arithmetic alone: nothing here holds a table.
+#![tactic(auto)]
+
+mod board_words;
+mod limits;
+mod object_words;
+mod packing;
+mod places;
+mod plans;
+
+pub use limits::{MOST_COPIES, MOST_FIELDS, MOST_LANES, MOST_MUTATORS, MOST_OBJECTS, MOST_ROWS};
+pub use packing::{hi, lo, pack};
+pub use places::{CELL_WORDS, COPY_WORDS, ROW_WORDS};
+pub use plans::Plan;
