@@ -1,13 +1,14 @@
-use Rattle.std.proofs.Common.{◌≡◌, ℕ, ◌+◌, ◌*◌, ◌<◌, ◌≤◌, arith}
+use Rattle.std.proofs.Common.{◌*◌, ◌≤◌, arith}
 use Rattle.std.proofs.Math.Nat.{mul-le-mul}
 use Rattle.st_layout.specs.declared.plans.Plan.{Plan}
+use Rattle.st_layout.specs.declared.limits.TheConstants.{MOST_MUTATORS, MOST_OBJECTS}
 use Rattle.st_layout.specs.declared.places.TheConstants.{MOST_WORDS}
 use Rattle.st_layout.specs.Limits.{IsWithinLimits}
-use Rattle.st_layout.specs.Names.{WordName, ClosingWord, ClockWord, EpochWord, AvailableWord, FlagWord, LaneWord, ClassWord, HeaderWord, ForwardWord, FieldWord, CopyWord, FreeWord, RowWord, IsNamed, cells_of}
+use Rattle.st_layout.specs.Names.{ClosingWord, ClockWord, EpochWord, AvailableWord, FlagWord, LaneWord, ClassWord, HeaderWord, ForwardWord, FieldWord, CopyWord, FreeWord, RowWord}
 use Rattle.st_layout.specs.Layout.{first_lane, first_cell, first_copy, first_free, first_row, words_of, word_of, HasWordsBelow}
 
 -- the objects of all mutators within the limits
-pub cells_fit : (plan : Plan) → IsWithinLimits plan → plan.mutators * plan.objects ≤ 131072
+pub cells_fit : (plan : Plan) → IsWithinLimits plan → plan.mutators * plan.objects ≤ MOST_MUTATORS * MOST_OBJECTS
 cells_fit plan limits = mul-le-mul limits.mutators limits.objects.1
 
 -- the words within the limits

@@ -1,8 +1,8 @@
-use Rattle.std.proofs.Common.{◌≡◌, ℕ, ◌+◌, ◌*◌, ◌<◌, ◌≤◌, arith, refl, ap}
+use Rattle.std.proofs.Common.{◌≡◌, ℕ, arith, refl, ap}
 use Rattle.st_layout.specs.declared.plans.Plan.{Plan}
 use Rattle.st_layout.specs.Limits.{IsWithinLimits}
-use Rattle.st_layout.specs.Names.{WordName, ClosingWord, ClockWord, EpochWord, AvailableWord, FlagWord, LaneWord, ClassWord, HeaderWord, ForwardWord, FieldWord, CopyWord, FreeWord, RowWord, IsNamed, cells_of}
-use Rattle.st_layout.specs.Layout.{first_lane, first_cell, first_copy, first_free, first_row, words_of, word_of, HasDistinctWords}
+use Rattle.st_layout.specs.Names.{WordName, ClosingWord, ClockWord, EpochWord, AvailableWord, FlagWord, LaneWord, ClassWord, HeaderWord, ForwardWord, FieldWord, CopyWord, FreeWord, RowWord}
+use Rattle.st_layout.specs.Layout.{first_lane, first_cell, first_copy, first_free, first_row, word_of, HasDistinctWords}
 
 -- names of one kind with the same two numbers are the same
 both : (kind : ℕ → ℕ → WordName) {a b c d : ℕ} → a ≡ b → c ≡ d → kind a c ≡ kind b d

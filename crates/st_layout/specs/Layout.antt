@@ -1,7 +1,7 @@
-use Rattle.std.specs.Prelude.{◌≡◌, ℕ, ◌+◌, ◌-◌, ◌*◌, ◌<◌, ◌≤◌}
+use Rattle.std.specs.Prelude.{◌≡◌, ℕ, ◌+◌, ◌-◌, ◌*◌, ◌<◌}
 use Rattle.st_layout.specs.declared.plans.Plan.{Plan}
 use Rattle.st_layout.specs.declared.places.TheConstants.{CLOSING_PLACE, CLOCK_PLACE, EPOCH_PLACE, AVAILABLE_PLACE, FLAGS_PLACE, CLASS_PLACE, HEADER_PLACE, FORWARDS_PLACE, FIELDS_PLACE, CELL_WORDS, COPY_WORDS, ROW_WORDS}
-use Rattle.st_layout.specs.Names.{WordName, ClosingWord, ClockWord, EpochWord, AvailableWord, FlagWord, LaneWord, ClassWord, HeaderWord, ForwardWord, FieldWord, CopyWord, FreeWord, RowWord, IsNamed, cells_of}
+use Rattle.st_layout.specs.Names.{WordName, ClosingWord, ClockWord, EpochWord, AvailableWord, FlagWord, LaneWord, ClassWord, HeaderWord, ForwardWord, FieldWord, CopyWord, FreeWord, RowWord, HasWord, cells_of}
 
 -- the lane words follow the flags, one for each mutator and one for main
 unfoldable pub first_lane : Plan → ℕ
@@ -45,8 +45,8 @@ word_of plan (RowWord check place) = first_row plan + (check - 1) * ROW_WORDS + 
 
 -- no two names have one word
 abbrev pub HasDistinctWords : Plan → Type 0
-HasDistinctWords plan = (a b : WordName) → IsNamed plan a → IsNamed plan b → word_of plan a ≡ word_of plan b → a ≡ b
+HasDistinctWords plan = (a b : WordName) → HasWord plan a → HasWord plan b → word_of plan a ≡ word_of plan b → a ≡ b
 
 -- each name's word is one of the first `count`
 abbrev pub HasWordsBelow : Plan → ℕ → Type 0
-HasWordsBelow plan count = (name : WordName) → IsNamed plan name → word_of plan name < count
+HasWordsBelow plan count = (name : WordName) → HasWord plan name → word_of plan name < count

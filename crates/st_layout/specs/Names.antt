@@ -1,7 +1,7 @@
 use Rattle.std.specs.Prelude.{ℕ, ◌+◌, ◌*◌, ◌<◌, ◌≤◌}
 use Rattle.st_layout.specs.declared.plans.Plan.{Plan}
 use Rattle.st_layout.specs.declared.limits.TheConstants.{MOST_FIELDS}
-use Rattle.st_layout.specs.declared.places.TheConstants.{ROW_WORDS}
+use Rattle.st_layout.specs.declared.places.TheConstants.{FIXED_CELLS, ROW_WORDS}
 
 -- what a word of the table is for
 pub data WordName : Type 0 where
@@ -32,22 +32,22 @@ pub data WordName : Type 0 where
   -- what is told of a check
   RowWord : (check place : ℕ) → WordName
 
--- how many cells there are: one that is unused, the shared object's, and those of each mutator
+-- how many cells there are: the fixed ones, and those of each mutator's objects
 abbrev pub cells_of : Plan → ℕ
-cells_of plan = 2 + plan.mutators * plan.objects
+cells_of plan = FIXED_CELLS + plan.mutators * plan.objects
 
--- the plan has a word of this name
-abbrev pub IsNamed : Plan → WordName → Type 0
-IsNamed plan ClosingWord = Unit {0}
-IsNamed plan ClockWord = Unit {0}
-IsNamed plan EpochWord = Unit {0}
-IsNamed plan AvailableWord = Unit {0}
-IsNamed plan (FlagWord number) = number ≤ plan.mutators
-IsNamed plan (LaneWord lane) = lane < plan.lanes
-IsNamed plan (ClassWord object) = object < cells_of plan
-IsNamed plan (HeaderWord object) = object < cells_of plan
-IsNamed plan (ForwardWord object lane) = (object < cells_of plan) × (lane < plan.lanes)
-IsNamed plan (FieldWord object field) = (object < cells_of plan) × (field < MOST_FIELDS)
-IsNamed plan (CopyWord copy place) = (copy < plan.copies) × (place ≤ MOST_FIELDS)
-IsNamed plan (FreeWord index) = index < plan.copies
-IsNamed plan (RowWord check place) = (1 ≤ check) × (check ≤ plan.rows) × (place < ROW_WORDS)
+-- the plan has a word of this name: its numbers are within the plan
+abbrev pub HasWord : Plan → WordName → Type 0
+HasWord plan ClosingWord = Unit {0}
+HasWord plan ClockWord = Unit {0}
+HasWord plan EpochWord = Unit {0}
+HasWord plan AvailableWord = Unit {0}
+HasWord plan (FlagWord number) = number ≤ plan.mutators
+HasWord plan (LaneWord lane) = lane < plan.lanes
+HasWord plan (ClassWord object) = object < cells_of plan
+HasWord plan (HeaderWord object) = object < cells_of plan
+HasWord plan (ForwardWord object lane) = (object < cells_of plan) × (lane < plan.lanes)
+HasWord plan (FieldWord object field) = (object < cells_of plan) × (field < MOST_FIELDS)
+HasWord plan (CopyWord copy place) = (copy < plan.copies) × (place ≤ MOST_FIELDS)
+HasWord plan (FreeWord index) = index < plan.copies
+HasWord plan (RowWord check place) = (1 ≤ check) × (check ≤ plan.rows) × (place < ROW_WORDS)

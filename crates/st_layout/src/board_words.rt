@@ -1,9 +1,9 @@
 //! The words that each thread reads by itself: the gate's, the clock, the epoch, the lanes and the free list.
-#![tactic(auto, using(crate::proofs::Bounds::cells_fit), unfolding(crate::specs::Layout::first_lane, crate::specs::Layout::first_cell, crate::specs::Layout::first_copy, crate::specs::Layout::first_free, crate::specs::Layout::first_row, crate::specs::Layout::words_of, crate::specs::Layout::word_of))]
+#![tactic(auto, using(crate::proofs::Bounds::cells_fit), unfolding(crate::specs::Layout::first_lane, crate::specs::Layout::first_cell, crate::specs::Layout::first_copy, crate::specs::Layout::first_free, crate::specs::Layout::word_of))]
 
 ghost use Rattle.std.specs.Prelude.{◌≡◌};
 ghost use Rattle.st_layout.specs.Limits.{IsWithinLimits};
-ghost use Rattle.st_layout.specs.Names.{ClosingWord, ClockWord, EpochWord, AvailableWord, FlagWord, LaneWord, FreeWord, IsNamed};
+ghost use Rattle.st_layout.specs.Names.{ClosingWord, ClockWord, EpochWord, AvailableWord, FlagWord, LaneWord, FreeWord, HasWord};
 ghost use Rattle.st_layout.specs.Layout.{word_of};
 
 use crate::places::{AVAILABLE_PLACE, CLOCK_PLACE, CLOSING_PLACE, EPOCH_PLACE, FLAGS_PLACE};
@@ -41,7 +41,7 @@ impl Plan {
     /// The flag of number `m`: a mutator's, or main's at `mutators`.
     pub fn flag_word(&self, m: u8) -> u32
         requires limits { IsWithinLimits self.now }
-        requires named { IsNamed self.now (FlagWord m) }
+        requires within { HasWord self.now (FlagWord m) }
         ensures { result ≡ word_of self.now (FlagWord m) }
     {
         FLAGS_PLACE + u32::from(m)
@@ -50,7 +50,7 @@ impl Plan {
     /// The word of the launch epoch of the lane's active check.
     pub fn lane_word(&self, lane: u8) -> u32
         requires limits { IsWithinLimits self.now }
-        requires named { IsNamed self.now (LaneWord lane) }
+        requires within { HasWord self.now (LaneWord lane) }
         ensures { result ≡ word_of self.now (LaneWord lane) }
     {
         self.first_lane() + u32::from(lane)
@@ -59,7 +59,7 @@ impl Plan {
     /// Entry `i` of the free list, from 0.
     pub fn free_word(&self, i: u32) -> u32
         requires limits { IsWithinLimits self.now }
-        requires named { IsNamed self.now (FreeWord i) }
+        requires within { HasWord self.now (FreeWord i) }
         ensures { result ≡ word_of self.now (FreeWord i) }
     {
         self.first_free() + i

@@ -8,8 +8,10 @@ mod object_words;
 mod packing;
 mod places;
 mod plans;
+#[cfg(test)]
+mod tests;
 
 pub use limits::{MOST_COPIES, MOST_FIELDS, MOST_LANES, MOST_MUTATORS, MOST_OBJECTS, MOST_ROWS};
 pub use packing::{hi, lo, pack};
-pub use places::{CELL_WORDS, COPY_WORDS, ROW_WORDS};
+pub use places::{CELL_WORDS, COPY_WORDS, MOST_WORDS, ROW_WORDS};
 pub use plans::Plan;

@@ -13,6 +13,9 @@ pub const AVAILABLE_PLACE: u32 = 3;
 /// The first flag, after the single words.
 pub const FLAGS_PLACE: u32 = 4;
 
+/// The cells that each plan has: cell 0, which is unused, and the shared object's.
+pub const FIXED_CELLS: u32 = 2;
+
 /// Within a cell, the class number.
 pub const CLASS_PLACE: u32 = 0;
 /// Within a cell, the header.
@@ -35,7 +38,7 @@ const _: () = prove!(FIELDS_PLACE + MOST_FIELDS as u32 <= CELL_WORDS);
 pub const MOST_WORDS: u32 = FLAGS_PLACE
     + (MOST_MUTATORS as u32 + 1)
     + MOST_LANES as u32
-    + (2 + MOST_MUTATORS as u32 * MOST_OBJECTS) * CELL_WORDS
+    + (FIXED_CELLS + MOST_MUTATORS as u32 * MOST_OBJECTS) * CELL_WORDS
     + MOST_COPIES * COPY_WORDS
     + MOST_COPIES
     + MOST_ROWS * ROW_WORDS;

@@ -1,14 +1,15 @@
 //! A plan of the table: how much of each part it has, where each part begins, and how many words there are.
 //! The parts stand in this order: single words, flags, lane words, cells, copies, free words, rows.
-#![tactic(auto, using(crate::proofs::Bounds::cells_fit), unfolding(crate::specs::Layout::first_lane, crate::specs::Layout::first_cell, crate::specs::Layout::first_copy, crate::specs::Layout::first_free, crate::specs::Layout::first_row, crate::specs::Layout::words_of, crate::specs::Layout::word_of))]
+#![tactic(auto, using(crate::proofs::Bounds::cells_fit), unfolding(crate::specs::Layout::first_lane, crate::specs::Layout::first_cell, crate::specs::Layout::first_copy, crate::specs::Layout::first_free, crate::specs::Layout::first_row, crate::specs::Layout::words_of))]
 
 ghost use Rattle.std.specs.Prelude.{◌≡◌, ◌≤◌};
 ghost use Rattle.st_layout.specs.Limits.{IsWithinLimits};
 ghost use Rattle.st_layout.specs.Layout.{first_lane, first_cell, first_copy, first_free, first_row, words_of, HasDistinctWords, HasWordsBelow};
 
-use crate::places::{CELL_WORDS, COPY_WORDS, FLAGS_PLACE, MOST_WORDS, ROW_WORDS};
+use crate::places::{CELL_WORDS, COPY_WORDS, FIXED_CELLS, FLAGS_PLACE, MOST_WORDS, ROW_WORDS};
 
-/// How much of each part the table has.
+/// How much of each part the table has. A call that gives a word takes a plan within the limits, and numbers that are
+/// within the plan: `obj` up to `1 + mutators * objects`, where cell 0 is unused and cell 1 is the shared object's.
 #[derive(Clone, Copy, Debug, PartialEq, Eq)]
 pub struct Plan {
     /// How many threads the program has.
@@ -51,12 +52,12 @@ impl Plan {
         self.first_lane() + u32::from(self.lanes)
     }
 
-    /// Where the copies begin. Cell 0 is unused, and cell 1 is the shared object's.
+    /// Where the copies begin.
     pub(crate) fn first_copy(&self) -> u32
         requires { IsWithinLimits self.now }
         ensures { result ≡ first_copy self.now }
     {
-        let cells = 2 + u32::from(self.mutators) * self.objects;
+        let cells = FIXED_CELLS + u32::from(self.mutators) * self.objects;
         self.first_cell() + cells * CELL_WORDS
     }
 
