@@ -4,23 +4,23 @@ use Rattle.st_layout.specs.declared.places.TheConstants.{CLOSING_PLACE, CLOCK_PL
 use Rattle.st_layout.specs.Names.{WordName, ClosingWord, ClockWord, EpochWord, AvailableWord, FlagWord, LaneWord, ClassWord, HeaderWord, ForwardWord, FieldWord, CopyWord, FreeWord, RowWord, HasWord, cells_of}
 
 -- the lane words follow the flags, one for each mutator and one for main
-unfoldable pub first_lane : Plan → ℕ
+abbrev pub first_lane : Plan → ℕ
 first_lane plan = FLAGS_PLACE + (plan.mutators + 1)
 
 -- the cells follow the lane words
-unfoldable pub first_cell : Plan → ℕ
+abbrev pub first_cell : Plan → ℕ
 first_cell plan = first_lane plan + plan.lanes
 
 -- the copies follow the cells
-unfoldable pub first_copy : Plan → ℕ
+abbrev pub first_copy : Plan → ℕ
 first_copy plan = first_cell plan + cells_of plan * CELL_WORDS
 
 -- the free words follow the copies
-unfoldable pub first_free : Plan → ℕ
+abbrev pub first_free : Plan → ℕ
 first_free plan = first_copy plan + plan.copies * COPY_WORDS
 
 -- the rows follow the free words, one for each copy
-unfoldable pub first_row : Plan → ℕ
+abbrev pub first_row : Plan → ℕ
 first_row plan = first_free plan + plan.copies
 
 -- the table ends with the rows

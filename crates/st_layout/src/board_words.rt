@@ -1,5 +1,5 @@
 //! The words that each thread reads by itself: the gate's, the clock, the epoch, the lanes and the free list.
-#![tactic(auto, using(crate::proofs::Bounds::cells_fit), unfolding(crate::specs::Layout::first_lane, crate::specs::Layout::first_cell, crate::specs::Layout::first_copy, crate::specs::Layout::first_free, crate::specs::Layout::word_of))]
+#![tactic(auto, using(crate::proofs::Bounds::cells_fit), unfolding(crate::specs::Layout::word_of))]
 
 ghost use Rattle.std.specs.Prelude.{◌≡◌};
 ghost use Rattle.st_layout.specs.Limits.{IsWithinLimits};

@@ -1,5 +1,5 @@
 //! The words of objects and their copies, and of the rows of checks.
-#![tactic(auto, using(crate::proofs::Bounds::cells_fit), unfolding(crate::specs::Layout::first_lane, crate::specs::Layout::first_cell, crate::specs::Layout::first_copy, crate::specs::Layout::first_free, crate::specs::Layout::first_row, crate::specs::Layout::word_of))]
+#![tactic(auto, using(crate::proofs::Bounds::cells_fit), unfolding(crate::specs::Layout::word_of))]
 
 ghost use Rattle.std.specs.Prelude.{◌≡◌, ◌+◌, ◌*◌, ◌<◌};
 ghost use Rattle.st_layout.specs.declared.places.TheConstants.{CELL_WORDS};

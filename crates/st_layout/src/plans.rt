@@ -1,6 +1,6 @@
 //! A plan of the table: how much of each part it has, where each part begins, and how many words there are.
 //! The parts stand in this order: single words, flags, lane words, cells, copies, free words, rows.
-#![tactic(auto, using(crate::proofs::Bounds::cells_fit), unfolding(crate::specs::Layout::first_lane, crate::specs::Layout::first_cell, crate::specs::Layout::first_copy, crate::specs::Layout::first_free, crate::specs::Layout::first_row, crate::specs::Layout::words_of))]
+#![tactic(auto, using(crate::proofs::Bounds::cells_fit), unfolding(crate::specs::Layout::words_of))]
 
 ghost use Rattle.std.specs.Prelude.{◌≡◌, ◌≤◌};
 ghost use Rattle.st_layout.specs.Limits.{IsWithinLimits};

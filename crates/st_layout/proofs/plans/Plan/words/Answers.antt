@@ -6,7 +6,7 @@ use Rattle.st_layout.proofs.plans.Plan.words.Goals as goal
 
 pub returns-clause-below : goal.returns-clause-below
 unfolding words_of
-returns-clause-below c name named = omega (arith, word_of-below c.args.self.now c.requires name named)
+returns-clause-below c name within = omega (arith, word_of-below c.args.self.now c.requires name within)
 
 pub returns-clause-distinct : goal.returns-clause-distinct
 returns-clause-distinct c = word_of-distinct c.args.self.now c.requires
