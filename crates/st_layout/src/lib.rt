@@ -1,5 +1,5 @@
 //! Numbers of the words of the shared table. Each word has a name, and distinct names have distinct words.
-//! Arithmetic alone: nothing here holds a table.
+//! Arithmetic alone: nothing here holds a table. The crates that make the table and step on it call it.
 #![tactic(auto)]
 
 mod board_words;

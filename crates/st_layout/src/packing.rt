@@ -2,8 +2,8 @@
 ghost use Rattle.std.specs.Prelude.{◌≡◌, ◌^◌, ◌<◌};
 ghost use Rattle.st_layout.specs.Packed.{packed, high_half, low_half};
 
-/// One more than the largest half.
-const HALF: u64 = 1 << 32;
+/// How many values a half has.
+const HALF_VALUES: u64 = 1 << 32;
 
 /// The word with `hi` as its high half and `lo` as its low half.
 pub fn pack(hi: u64, lo: u64) -> u64
@@ -13,7 +13,7 @@ pub fn pack(hi: u64, lo: u64) -> u64
     ensures high { high_half result ≡ hi }
     ensures low { low_half result ≡ lo }
 {
-    hi * HALF + lo
+    hi * HALF_VALUES + lo
 }
 
 /// The high half of `w`.
@@ -22,7 +22,7 @@ pub fn hi(w: u64) -> u64
     ensures fits { result < 2 ^ 32 }
     ensures whole { packed result (low_half w) ≡ w }
 {
-    w / HALF
+    w / HALF_VALUES
 }
 
 /// The low half of `w`.
@@ -31,5 +31,5 @@ pub fn lo(w: u64) -> u64
     ensures fits { result < 2 ^ 32 }
     ensures whole { packed (high_half w) result ≡ w }
 {
-    w % HALF
+    w % HALF_VALUES
 }

@@ -25,11 +25,11 @@ pub struct Plan {
 }
 
 impl Plan {
-    /// How many words the table has.
+    /// How many words the table has, of 64 bits each. Each name's word is below, and no two names have one word.
     pub fn words(&self) -> u32
         requires { IsWithinLimits self.now }
-        ensures most { result ≤ MOST_WORDS }
         ensures count { result ≡ words_of self.now }
+        ensures most { result ≤ MOST_WORDS }
         ensures below { HasWordsBelow self.now result }
         ensures distinct { HasDistinctWords self.now }
     {
