@@ -2,4 +2,8 @@ mod AllLemmas
 mod CellLemmas
 mod Examples
 pub mod HeapLemmas
+pub mod LegalLemmas
 mod ShapeLemmas
+pub mod SoundHeap
+pub mod SoundTypes
+pub mod WorldLemmas
