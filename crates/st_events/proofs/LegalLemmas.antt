@@ -9,8 +9,8 @@ use Rattle.st_events.specs.declared.limits.Sizes.{Sizes}
 use Rattle.st_events.specs.declared.reasons.Why.{Why}
 use Rattle.st_events.specs.Shape.{ShapeLists}
 use Rattle.st_events.specs.Heap.{word_at}
-use Rattle.st_events.specs.World.{World, next, world_from, world_after, first_world}
-use Rattle.st_events.specs.Legal.{IsLegalNext, IsLegalFrom, IsLegal, Rule, first_failing, next_object, rules_of, exists, fits_cell, is_word, same_truth, args_fit, is_among}
+use Rattle.st_events.specs.World.{is_among, World, next, world_from, world_after, first_world}
+use Rattle.st_events.specs.Legal.{IsLegalNext, IsLegalFrom, IsLegal, Rule, first_failing, next_object, rules_of, exists, fits_cell, is_word, same_truth, args_fit}
 use Rattle.st_events.proofs.WorldLemmas.{world_after-append}
 
 -- the empty journal is legal

@@ -1,4 +1,5 @@
 mod AllLemmas
+pub mod AmongLemmas
 mod CellLemmas
 mod Examples
 pub mod HeapLemmas
