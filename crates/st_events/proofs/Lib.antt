@@ -3,8 +3,10 @@ pub mod AmongLemmas
 mod CellLemmas
 mod Examples
 pub mod HeapLemmas
+pub mod KeptLemmas
 pub mod LegalLemmas
 mod ShapeLemmas
+pub mod SoundChecks
 pub mod SoundHeap
 pub mod SoundTypes
 pub mod WorldLemmas
