@@ -7,6 +7,8 @@ pub mod KeptLemmas
 pub mod LegalLemmas
 mod ShapeLemmas
 pub mod SoundChecks
+pub mod SoundCopies
 pub mod SoundHeap
+pub mod SoundLemmas
 pub mod SoundTypes
 pub mod WorldLemmas

@@ -63,12 +63,17 @@ classes-new heap obj x absent = record { kept = λ o class e. elim (eqb_tells o 
     none : (o class : ℕ) → o ≡ obj → class_at heap o ≡ Some class → ⊥
     none o class same e = let f : class_at heap o ≡ None = ap (option_map (λ (y : Object). y.class)) (ap heap same ∙ absent) in cc
 
-pub typed-new : (shape : ShapeLists) (heap : Heap) (obj class : ℕ) → heap obj ≡ None → class < length shape.classes → IsTypedHeap shape heap → IsTypedHeap shape (with_object heap obj (fresh shape class))
-typed-new shape heap obj class absent declared t =
+-- the objects of a heap are typed, whether it has the shared object or not
+pub record AreTyped (shape : ShapeLists) (heap : Heap) : Type 0 where
+  pub declared : (obj class : ℕ) → class_at heap obj ≡ Some class → class < length shape.classes
+  pub lengths : (obj : ℕ) (x : Object) → heap obj ≡ Some x → length x.words ≡ length (kinds_of shape x.class)
+  pub kinds : (obj field word : ℕ) → word_at heap obj field ≡ Some word → fits_cell shape heap obj field word ≡ true
+
+pub are_typed-new : (shape : ShapeLists) (heap : Heap) (obj class : ℕ) → heap obj ≡ None → class < length shape.classes → AreTyped shape heap → AreTyped shape (with_object heap obj (fresh shape class))
+are_typed-new shape heap obj class absent declared t =
     let later = with_object heap obj (fresh shape class) in
     let kept = classes-new heap obj (fresh shape class) absent in
     record {
-      shared = kept.kept 1 0 t.shared;
       declared = λ o c e. elim (eqb_tells o obj) [
           inl same ↦ (let f : Some class ≡ Some c = sym (ap (λ (p : ℕ). class_at later p) same.1 ∙ ap (option_map (λ (y : Object). y.class)) (with_object-same heap obj (fresh shape class))) ∙ e in let g : class ≡ c = cc in subst (λ (n : ℕ). n < length shape.classes) g declared)
         | inr other ↦ t.declared o c (sym (ap (option_map (λ (y : Object). y.class)) (with_object-other heap obj (fresh shape class) o other.1)) ∙ e) ];
@@ -88,6 +93,22 @@ typed-new shape heap obj class absent declared t =
         subst (λ (y : Option Object). has_kind_if_any (with_object heap obj (fresh shape class)) (kind_of shape y field) word ≡ true) (sym is)
         (subst (λ (kind : Option Kind). has_kind_if_any (with_object heap obj (fresh shape class)) kind word ≡ true) (sym z.1)
         (subst (λ (n : ℕ). has_kind (with_object heap obj (fresh shape class)) z.0 n ≡ true) (sym z.2) (has_kind-zero (with_object heap obj (fresh shape class)) z.0)))
+
+pub typed-new : (shape : ShapeLists) (heap : Heap) (obj class : ℕ) → heap obj ≡ None → class < length shape.classes → IsTypedHeap shape heap → IsTypedHeap shape (with_object heap obj (fresh shape class))
+typed-new shape heap obj class absent declared t =
+    let objects = are_typed-new shape heap obj class absent declared (record { declared = t.declared; lengths = t.lengths; kinds = t.kinds }) in
+    record { shared = (classes-new heap obj (fresh shape class) absent).kept 1 0 t.shared; declared = objects.declared; lengths = objects.lengths; kinds = objects.kinds }
+
+-- no object at all
+nowhere : Heap
+nowhere = λ o. None
+
+-- the shared object alone
+pub typed-first : (shape : ShapeLists) → IsWithinLimits shape → IsTypedHeap shape (first_heap shape)
+unfolding nowhere
+typed-first shape limits =
+    let objects = are_typed-new shape nowhere 1 0 refl limits.some_class (record { declared = λ obj class h. cc; lengths = λ obj x h. cc; kinds = λ obj field word h. cc }) in
+    record { shared = refl; declared = objects.declared; lengths = objects.lengths; kinds = objects.kinds }
 
 -- ---- a change
 
