@@ -1,3 +1,4 @@
+pub mod AlikeLemmas
 mod AllLemmas
 pub mod AmongLemmas
 mod CellLemmas
@@ -5,6 +6,7 @@ mod Examples
 pub mod HeapLemmas
 pub mod KeptLemmas
 pub mod LegalLemmas
+mod ReplayLemmas
 mod ShapeLemmas
 pub mod SoundChecks
 pub mod SoundCopies
