@@ -3,6 +3,7 @@ mod AllLemmas
 pub mod AmongLemmas
 mod CellLemmas
 mod Examples
+pub mod ExtendsLemmas
 pub mod HeapLemmas
 pub mod KeptLemmas
 pub mod LegalLemmas

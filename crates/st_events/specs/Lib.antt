@@ -3,6 +3,7 @@ pub mod HeapCell
 pub mod History
 pub mod Journal
 pub mod Kind
+pub mod Laws
 pub mod Legal
 pub mod Ran
 pub mod Seen
