@@ -26,14 +26,20 @@ Extends-trans : (f g h : Heap) → Extends f g → Extends g h → Extends f h
 Extends-trans f g h a b = record { object = λ obj x e. let y = a.object obj x e in let z = b.object obj y.0 y.1 in (z.0, z.1, z.2 ∙ y.2, z.3 ∙ y.3) }
 
 extends-new : (heap : Heap) (obj : ℕ) (x : Object) → heap obj ≡ None → Extends heap (with_object heap obj x)
-extends-new heap obj x absent = record { object = λ o y e. elim (eqb_tells o obj) [
-    inl s ↦ (let f : Some y ≡ None = sym e ∙ ap heap s.1 ∙ absent in cc)
-  | inr s ↦ (y, with_object-other heap obj x o s.1 ∙ e, refl, refl) ] }
+extends-new heap obj x absent = record {
+  object = λ o y e. elim (eqb_tells o obj) [
+    | inl s ↦ (let f : Some y ≡ None = sym e ∙ ap heap s.1 ∙ absent in cc)
+    | inr s ↦ (y, with_object-other heap obj x o s.1 ∙ e, refl, refl)
+  ];
+}
 
 extends-changed : (heap : Heap) (obj field value : ℕ) → Extends heap (with_word heap obj field value)
-extends-changed heap obj field value = record { object = λ o y e. elim (eqb_tells o obj) [
-    inl s ↦ (set_word field value y, rw s.0 (ap (option_map (set_word field value)) e), refl, length-set y.words field value)
-  | inr s ↦ (y, with_word-other heap obj field value o s.1 ∙ e, refl, refl) ] }
+extends-changed heap obj field value = record {
+  object = λ o y e. elim (eqb_tells o obj) [
+    | inl s ↦ (set_word field value y, rw s.0 (ap (option_map (set_word field value)) e), refl, length-set y.words field value)
+    | inr s ↦ (y, with_word-other heap obj field value o s.1 ∙ e, refl, refl)
+  ];
+}
 
 extends-next : (shape : ShapeLists) (sizes : Sizes) (w : World) (e : Event) → IsSound shape sizes w → IsLegalNext shape sizes w e → Extends w.heap (next shape sizes w e).heap
 extends-next shape sizes w (New m obj class) s l = extends-new w.heap obj (fresh shape class) (next_is_absent shape sizes w m obj class s.regions (legal_new shape sizes w m obj class l))

@@ -7,5 +7,4 @@ pub fn laws_of_journals()
     ensures prefixes { HaveLegalPrefixes }
     ensures sound { AreSound }
     ensures past { KeepThePast }
-{
-}
+{}

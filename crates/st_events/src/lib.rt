@@ -13,6 +13,8 @@ mod replaying;
 mod replays;
 mod runs;
 mod shapes;
+#[cfg(test)]
+mod tests;
 mod verdicts;
 
 pub use events::{Args, Event, Site};

@@ -6,8 +6,8 @@ use Rattle.st_events.proofs.laws.laws_of_journals.Goals as goal
 
 pub returns : goal.returns
 returns c = record {
-    grow = record { world = world_after-snoc; legal = IsLegal-snoc };
-    prefixes = IsLegal-prefix;
-    sound = sound_after;
-    past = record { cells = heap_after-extends; launches = launch_of-stays; lost = is_lost-stays }
-  }
+  grow = record { world = world_after-snoc; legal = IsLegal-snoc };
+  prefixes = IsLegal-prefix;
+  sound = sound_after;
+  past = record { cells = heap_after-extends; launches = launch_of-stays; lost = is_lost-stays };
+}
