@@ -8,6 +8,7 @@ mod memory_files;
 mod memory_sinks;
 mod pacing;
 mod reading;
+mod taking;
 mod writing;
 
 pub use faults::{FilesFault, SinkFault};
