@@ -33,16 +33,20 @@ mark_piece (a ∷ b ∷ z) =
     if is_double_mark a b then piece.Found kind.Mark 2
     else (if is_single_mark a then piece.Found kind.Mark 1 else piece.Wrong fault.BadByte)
 
+-- the token at the front of a text, where no blank and no comment stands there
+unfoldable pub token_piece : List ℕ → Piece
+token_piece z =
+    if is_letter (slice_index z 0) then word_piece (take (prefix_len is_name_byte z) z)
+    else (if is_digit (slice_index z 0) then number_piece (take (prefix_len is_digit z) z)
+    else mark_piece z)
+
 -- what stands at the front of a text that is not empty
 unfoldable pub front_piece : List ℕ → Piece
 front_piece z =
-    let b = slice_index z 0 in
-    if is_newline b then piece.Newline
-    else (if is_blank b then piece.Gap 1
+    if is_newline (slice_index z 0) then piece.Newline
+    else (if is_blank (slice_index z 0) then piece.Gap 1
     else (if opens_comment z then piece.Gap (prefix_len is_comment_byte z)
-    else (if is_letter b then word_piece (take (prefix_len is_name_byte z) z)
-    else (if is_digit b then number_piece (take (prefix_len is_digit z) z)
-    else mark_piece z))))
+    else token_piece z))
 
 abbrev pub token_at : List ℕ → ℕ → TokenKind → ℕ → Token
 token_at text place kind len = record { kind = kind; start = place; end = place + len; site = site_of text place }

@@ -3,6 +3,7 @@
 #![tactic(auto)]
 
 mod bytes;
+mod cursors;
 mod faults;
 mod kinds;
 mod lexer;
