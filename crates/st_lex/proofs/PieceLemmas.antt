@@ -215,7 +215,7 @@ none_at_all b z zero single longer within = refl
 none_at_all b z (suc zero) single longer within = single
 none_at_all b z (suc (suc n)) single longer within = longer (suc (suc n)) (omega arith) within
 
-newline_blank : (b : ℕ) → is_newline b ≡ true → is_blank b ≡ true
+pub newline_blank : (b : ℕ) → is_newline b ≡ true → is_blank b ≡ true
 newline_blank b h = grind (arith, nat_tests)
 
 single_flat : (b : ℕ) → is_single_mark b ≡ true → is_comment_byte b ≡ true
