@@ -60,7 +60,7 @@ reading_step text place within =
     opened text place (get_or text place 0) (drop (place + 1) text) cells
     ∙ ap (λ z. reads_on text place (front_piece z) (λ len. read_rest text (len - 1) (place + 1) (drop (place + 1) text))) (sym cells)
     ∙ same_on text place (drop place text) (front_piece (drop place text)) (λ len. read_rest text (len - 1) (place + 1) (drop (place + 1) text)) (λ len. reading text (place + len))
-        (piece_means text place within) (rest_after text place)
+    (piece_means text place within) (rest_after text place)
 
 -- tokens before what is read
 abbrev pub with_front : List Token → Result (List Token) Stop → Result (List Token) Stop

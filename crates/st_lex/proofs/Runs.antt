@@ -18,8 +18,8 @@ pub run_passes : {X : Type 0} (p : X → Bool) (xs : List X) → list_all p (tak
 run_passes p [] = refl
 run_passes p (x ∷ xs) =
     elim (p x) as (λ b. p x ≡ b → list_all p (take (cond b (1 + prefix_len p xs) 0) (x ∷ xs)) ≡ true) [
-      true ↦ λ h. rw (one-add (prefix_len p xs)) (rw (h, run_passes p xs) refl)
-    | false ↦ λ h. refl
+      | true ↦ λ h. rw (one-add (prefix_len p xs)) (rw (h, run_passes p xs) refl)
+      | false ↦ λ h. refl
     ] refl
 
 -- no more elements from the front pass

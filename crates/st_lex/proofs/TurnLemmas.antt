@@ -88,13 +88,13 @@ cursor_at place line column = record { place = place; site = record { line = lin
 
 pub at_start : (text : List ℕ) → IsAt text [] (cursor_at 0 1 1)
 at_start text = record {
-    whole = with_front_none (reading text 0) ∙ reading_all text;
-    within = omega arith;
-    line_is = ap (λ (s : Site). s.line) (sym (site_first text));
-    column_is = ap (λ (s : Site). s.column) (sym (site_first text));
-    line = omega arith;
-    column = omega arith;
-  }
+  whole = with_front_none (reading text 0) ∙ reading_all text;
+  within = omega arith;
+  line_is = ap (λ (s : Site). s.line) (sym (site_first text));
+  column_is = ap (λ (s : Site). s.column) (sym (site_first text));
+  line = omega arith;
+  column = omega arith;
+}
 
 -- the piece that the code sees
 front_is : (text : List ℕ) (place : ℕ) (p : Piece) → p ≡ front_piece (take (length text - place) (drop place text)) → front_piece (drop place text) ≡ p
@@ -109,7 +109,11 @@ at_newline text tokens cursor at inside seen =
     let line = at.line in let line_is = at.line_is in let turned = turn.line in let column = turn.column in
     record {
       whole = ap (with_front tokens) (sym turn.read) ∙ at.whole;
-      within = omega arith; line_is = omega arith; column_is = omega arith; line = omega arith; column = omega arith;
+      within = omega arith;
+      line_is = omega arith;
+      column_is = omega arith;
+      line = omega arith;
+      column = omega arith;
     }
 
 flat_at : (text : List ℕ) (before after : List Token) (cursor : Cursor) (len : ℕ) → IsAt text before cursor → FlatTurn text cursor.place len → with_front after (reading text (cursor.place + len)) ≡ with_front before (reading text cursor.place) → IsAt text after (cursor_at (cursor.place + len) cursor.site.line (cursor.site.column + len))
@@ -118,7 +122,11 @@ flat_at text before after cursor len at turn read =
     let turned = turn.line in let moved = turn.column in let some = turn.some in
     record {
       whole = read ∙ at.whole;
-      within = turn.within; line_is = omega arith; column_is = omega arith; line = omega arith; column = omega arith;
+      within = turn.within;
+      line_is = omega arith;
+      column_is = omega arith;
+      line = omega arith;
+      column = omega arith;
     }
 
 pub at_gap : (text : List ℕ) (tokens : List Token) (cursor : Cursor) (len : ℕ) → IsAt text tokens cursor → cursor.place < length text → Sees text cursor (piece.Gap len) → IsAt text tokens (cursor_at (cursor.place + len) cursor.site.line (cursor.site.column + len))
@@ -141,9 +149,9 @@ at_found text tokens cursor kind len at inside seen =
     let token = cursor_token cursor kind len in
     let read = reading text (cursor.place + len) in
     flat_at text tokens (tokens ++ token ∷ []) cursor len at (found_turn text cursor.place kind len inside e)
-      (sym (with_front_one tokens token read)
-       ∙ ap (λ (t : Token). with_front tokens (with_first t read)) (token_same text tokens cursor kind len at)
-       ∙ ap (with_front tokens) (sym (found_read text cursor.place kind len inside e)))
+    (sym (with_front_one tokens token read)
+    ∙ ap (λ (t : Token). with_front tokens (with_first t read)) (token_same text tokens cursor kind len at)
+    ∙ ap (with_front tokens) (sym (found_read text cursor.place kind len inside e)))
 
 -- where the code's piece ends
 pub gap_fits : (text : List ℕ) (place len : ℕ) → place < length text → piece.Gap len ≡ front_piece (take (length text - place) (drop place text)) → FlatTurn text place len
@@ -164,7 +172,7 @@ tells text place fault.LongNumber read e = (place, e, refl)
 pub at_wrong : (text : List ℕ) (tokens : List Token) (cursor : Cursor) (f : Fault) → IsAt text tokens cursor → cursor.place < length text → Sees text cursor (piece.Wrong f) → TellsStop text (error_at f cursor.site) (read_tokens text)
 at_wrong text tokens cursor f at inside seen =
     let site : cursor.site ≡ site_of text cursor.place =
-        ap (λ (l : ℕ). record { line = l; column = cursor.site.column }) at.line_is ∙ ap (λ (k : ℕ). record { line = line_of text cursor.place; column = k }) at.column_is in
+    ap (λ (l : ℕ). record { line = l; column = cursor.site.column }) at.line_is ∙ ap (λ (k : ℕ). record { line = line_of text cursor.place; column = k }) at.column_is in
     subst (λ (s : Site). TellsStop text (error_at f s) (read_tokens text)) (sym site)
-      (tells text cursor.place f (read_tokens text)
-        (sym at.whole ∙ ap (with_front tokens) (wrong_read text cursor.place f inside (front_is text cursor.place (piece.Wrong f) seen))))
+    (tells text cursor.place f (read_tokens text)
+    (sym at.whole ∙ ap (with_front tokens) (wrong_read text cursor.place f inside (front_is text cursor.place (piece.Wrong f) seen))))

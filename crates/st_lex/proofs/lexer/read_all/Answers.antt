@@ -46,7 +46,7 @@ loop-cursor-smaller c =
 pub loop-cursor-preserved : goal.loop-cursor-preserved
 loop-cursor-preserved c =
     rw (c.skip-in-Found.ensures, c.in_ok-push-in-Found.ensures.items, c.token.ensures)
-      (at_found c.args.text.now c.loop-cursor.list.items c.loop-cursor.cursor c.in-Found.kind c.in-Found.len c.loop-cursor.invariant c.loop-cursor-test.true c.in-Found.ensures)
+    (at_found c.args.text.now c.loop-cursor.list.items c.loop-cursor.cursor c.in-Found.kind c.in-Found.len c.loop-cursor.invariant c.loop-cursor-test.true c.in-Found.ensures)
 
 pub returns-in-Wrong : goal.returns-in-Wrong
 returns-in-Wrong c =
