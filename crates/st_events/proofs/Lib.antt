@@ -7,7 +7,9 @@ pub mod ExtendsLemmas
 pub mod HeapLemmas
 pub mod KeptLemmas
 pub mod LegalLemmas
+pub mod PoolLemmas
 mod ReplayLemmas
+pub mod RowLemmas
 mod ShapeLemmas
 pub mod SoundChecks
 pub mod SoundCopies

@@ -25,3 +25,7 @@ pub record KeepThePast : Type 0 where
   pub cells : (shape : ShapeLists) (sizes : Sizes) → IsWithinLimits shape → (es fs : List Event) → IsLegal shape sizes (es ++ fs) → Extends (heap_after shape sizes es) (heap_after shape sizes (es ++ fs))
   pub launches : (shape : ShapeLists) (sizes : Sizes) → IsWithinLimits shape → (es fs : List Event) (n : ℕ) (launch : Launched) → IsLegal shape sizes (es ++ fs) → launch_of shape sizes es n ≡ Some launch → launch_of shape sizes (es ++ fs) n ≡ Some launch
   pub lost : (shape : ShapeLists) (sizes : Sizes) (es fs : List Event) (obj n : ℕ) → is_lost (lost_pairs shape sizes es) obj n ≡ true → is_lost (lost_pairs shape sizes (es ++ fs)) obj n ≡ true
+
+-- a pool of at least `lanes * (objects + 1)` copies, for the objects of the whole journal, never loses a version
+abbrev pub LoseNothing : Type 0
+LoseNothing = (shape : ShapeLists) (sizes : Sizes) → IsWithinLimits shape → (es : List Event) → IsLegal shape sizes es → sizes.lanes * (objects_of es + 1) ≤ sizes.copies → lost_pairs shape sizes es ≡ []
