@@ -1,5 +1,5 @@
 -- What stays in every legal extension of a legal journal
-use Rattle.std.proofs.Common.{◌≡◌, ◌≢◌, ℕ, ◌+◌, ◌≤◌, ◌==◌, cond, Bool, true, false, ◌⊎◌, inl, inr, List, [], ◌∷◌, ◌++◌, length, map, Option, Some, None, refl, sym, ◌∙◌, ap, subst, arith, IsSome}
+use Rattle.std.proofs.Common.{◌≡◌, ℕ, cond, Bool, true, false, inl, inr, List, [], ◌∷◌, ◌++◌, map, Some, None, refl, sym, ◌∙◌, ap, subst, arith}
 use Rattle.std.specs.Option.{option_map}
 use Rattle.std.proofs.lemmas.List.{length-set}
 use Rattle.std.proofs.lemmas.Bool.Decides.{eqb_tells}
@@ -8,7 +8,7 @@ use Rattle.st_events.specs.declared.events.Event.TheVariants.{New, Load, Store, 
 use Rattle.st_events.specs.declared.limits.Sizes.{Sizes}
 use Rattle.st_events.specs.Shape.{ShapeLists, IsWithinLimits}
 use Rattle.st_events.specs.Heap.{Heap, Object, with_object, with_word, set_word, fresh}
-use Rattle.st_events.specs.World.{World, Launched, Pair, next, world_from, world_after, at, changed, is_lost, is_full, lost_at_change, needing_in}
+use Rattle.st_events.specs.World.{World, Launched, next, world_from, world_after, is_lost, is_full, lost_at_change, needing_in}
 use Rattle.st_events.specs.Legal.{IsLegal, IsLegalNext, IsLegalFrom}
 use Rattle.st_events.specs.Sound.{Extends, IsSound}
 use Rattle.st_events.proofs.WorldLemmas.{at-other, world_after-append}

@@ -1,17 +1,14 @@
 -- Legal journals: one more event, a part, what an event that is legal says
-use Rattle.std.proofs.Common.{◌≡◌, ℕ, ◌+◌, ◌*◌, ◌<◌, ◌≤◌, ◌==◌, cond, Bool, true, false, ◌&&◌, List, [], ◌∷◌, ◌++◌, length, Option, Some, None, refl, sym, ◌∙◌, subst, inl, inr, arith, IsSome, is_some, nat_le, nat_lt, slice_get}
-use Rattle.std.proofs.lemmas.Bool.Decides.{eqb_tells, leb_tells, nat_tests}
-use Rattle.std.specs.List.{list_any}
+use Rattle.std.proofs.Common.{◌≡◌, ℕ, ◌+◌, ◌<◌, ◌≤◌, ◌==◌, cond, Bool, true, false, ◌&&◌, List, [], ◌∷◌, ◌++◌, length, Some, None, refl, arith, IsSome, nat_le, nat_lt, slice_get}
+use Rattle.std.proofs.lemmas.Bool.Decides.{nat_tests}
 use Rattle.st_events.specs.declared.events.Event.{Event}
-use Rattle.st_events.specs.declared.events.Event.TheVariants.{New, Load, Store, Cas, Launch, Retire}
+use Rattle.st_events.specs.declared.events.Event.TheVariants.{New, Store, Cas, Launch, Retire}
 use Rattle.st_events.specs.declared.events.Args.{Args}
 use Rattle.st_events.specs.declared.limits.Sizes.{Sizes}
-use Rattle.st_events.specs.declared.reasons.Why.{Why}
 use Rattle.st_events.specs.Shape.{ShapeLists}
 use Rattle.st_events.specs.Heap.{word_at}
 use Rattle.st_events.specs.World.{is_among, World, next, world_from, world_after, first_world}
-use Rattle.st_events.specs.Legal.{IsLegalNext, IsLegalFrom, IsLegal, Rule, first_failing, next_object, rules_of, exists, fits_cell, is_word, same_truth, args_fit}
-use Rattle.st_events.proofs.WorldLemmas.{world_after-append}
+use Rattle.st_events.specs.Legal.{IsLegalNext, IsLegalFrom, IsLegal, Rule, first_failing, next_object, rules_of, fits_cell, args_fit}
 
 -- the empty journal is legal
 pub IsLegal-empty : (shape : ShapeLists) (sizes : Sizes) → IsLegal shape sizes []

@@ -1,17 +1,17 @@
 -- Launches, active checks, stamps and pasts, kept by each legal event
-use Rattle.std.proofs.Common.{◌≡◌, ◌≢◌, ℕ, zero, suc, ◌+◌, ◌<◌, ◌≤◌, ◌==◌, cond, not, Bool, true, false, ◌⊎◌, inl, inr, List, [], ◌∷◌, ◌++◌, length, Option, Some, None, refl, sym, ◌∙◌, ap, subst, arith, IsSome, is_some}
+use Rattle.std.proofs.Common.{◌≡◌, ℕ, ◌<◌, ◌==◌, cond, not, Bool, inl, inr, [], ◌∷◌, Option, Some, None, refl, sym, ◌∙◌, ap, subst, arith, IsSome}
 use Rattle.std.specs.Option.{option_map}
 use Rattle.std.proofs.lemmas.List.{length-append}
-use Rattle.std.proofs.lemmas.Bool.Decides.{eqb_tells, nat_tests}
-use Rattle.st_events.specs.declared.events.Event.TheVariants.{New, Load, Store, Cas, Launch, Retire}
+use Rattle.std.proofs.lemmas.Bool.Decides.{eqb_tells}
+use Rattle.st_events.specs.declared.events.Event.TheVariants.{New, Launch, Retire}
 use Rattle.st_events.specs.declared.events.Args.{Args}
 use Rattle.st_events.specs.declared.limits.Sizes.{Sizes}
 use Rattle.st_events.specs.Shape.{ShapeLists}
-use Rattle.st_events.specs.Heap.{Heap, Object, with_object, with_word, set_word, fresh}
-use Rattle.st_events.specs.World.{World, Launched, next, at, changed, is_among, without}
-use Rattle.st_events.specs.Sound.{AreLaunches, AreActive, AreStamps, ArePasts, IsRising}
+use Rattle.st_events.specs.Heap.{Object, with_object, with_word, set_word, fresh}
+use Rattle.st_events.specs.World.{World, Launched, next, at, changed}
+use Rattle.st_events.specs.Sound.{AreLaunches, AreActive, AreStamps, ArePasts}
 use Rattle.st_events.proofs.WorldLemmas.{at-same, at-other}
-use Rattle.st_events.proofs.LegalLemmas.{LegalNew, LegalStore, LegalLaunch, LegalRetire}
+use Rattle.st_events.proofs.LegalLemmas.{LegalLaunch}
 use Rattle.st_events.proofs.SoundHeap.{with_object-same, with_object-other, with_word-same, with_word-other}
 use Rattle.st_events.proofs.AmongLemmas.{is_among-snoc, is_among-without, length-filter, IsRising-filter, IsRising-snoc}
 

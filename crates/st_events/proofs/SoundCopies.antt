@@ -1,17 +1,17 @@
 -- Copies kept and versions lost, kept by each legal event
-use Rattle.std.proofs.Common.{◌≡◌, ◌≢◌, ℕ, zero, suc, ◌+◌, ◌<◌, ◌≤◌, ◌==◌, cond, not, Bool, true, false, ◌⊎◌, inl, inr, List, [], ◌∷◌, ◌++◌, length, map, Option, Some, None, refl, sym, ◌∙◌, ap, subst, arith, IsSome, is_some}
+use Rattle.std.proofs.Common.{◌≡◌, ◌≢◌, ℕ, ◌<◌, ◌≤◌, cond, not, Bool, true, false, ◌⊎◌, inl, inr, [], ◌∷◌, ◌++◌, length, map, Option, Some, None, refl, sym, ◌∙◌, subst, arith, IsSome, is_some}
 use Rattle.std.specs.Prelude.{nat_lt}
 use Rattle.std.proofs.lemmas.List.{length-append}
 use Rattle.std.proofs.lemmas.Bool.Decides.{eqb_tells, nat_tests}
-use Rattle.st_events.specs.declared.events.Event.TheVariants.{New, Load, Store, Cas, Launch, Retire}
+use Rattle.st_events.specs.declared.events.Event.TheVariants.{New, Launch, Retire}
 use Rattle.st_events.specs.declared.events.Args.{Args}
 use Rattle.st_events.specs.declared.limits.Sizes.{Sizes}
 use Rattle.st_events.specs.Shape.{ShapeLists}
-use Rattle.st_events.specs.Heap.{Heap, Object, fresh}
-use Rattle.st_events.specs.World.{World, Launched, Row, Pair, next, at, changed, is_among, is_kept, is_lost, is_full, needing_in, row_if_needed, kept_at_change, lost_at_change, released, without}
+use Rattle.st_events.specs.Heap.{Object}
+use Rattle.st_events.specs.World.{World, Launched, next, at, changed, is_among, is_kept, is_lost, is_full, needing_in, row_if_needed, released}
 use Rattle.st_events.specs.Sound.{AreLaunches, AreActive, AreStamps, ArePasts, AreCopies, IsNoted}
 use Rattle.st_events.proofs.WorldLemmas.{at-same, at-other}
-use Rattle.st_events.proofs.LegalLemmas.{LegalNew, LegalStore, LegalLaunch, LegalRetire}
+use Rattle.st_events.proofs.LegalLemmas.{LegalLaunch}
 use Rattle.st_events.proofs.AmongLemmas.{is_among-snoc, is_among-front, is_among-filter, filter-is_among, is_among-without, without-is_among}
 use Rattle.st_events.proofs.KeptLemmas.{is_kept-append, is_kept-front, is_kept-back, is_kept-row, row-is_kept, length-row_if_needed, is_kept-released, released-is_kept, length-released, is_lost-append, is_lost-front, is_lost-back, is_lost-pairs, pairs-is_lost}
 

@@ -1,23 +1,16 @@
 -- The heap of a legal journal is typed, and every object lies in its mutator's region
-use Rattle.std.proofs.Common.{◌≡◌, ◌≢◌, ℕ, zero, suc, ◌+◌, ◌*◌, ◌<◌, ◌≤◌, ◌==◌, cond, Bool, true, false, ◌⊎◌, inl, inr, List, [], ◌∷◌, length, map, slice_get, Option, Some, None, refl, sym, ◌∙◌, ap, subst, arith, IsSome, is_some}
-use Rattle.std.specs.Prelude.{slice_set, nat_le, ◌||◌}
+use Rattle.std.proofs.Common.{◌≡◌, ◌≢◌, ℕ, suc, ◌+◌, ◌*◌, ◌<◌, ◌≤◌, ◌⊎◌, inl, inr, Option, Some, None, refl, sym, ◌∙◌, subst, arith}
 use Rattle.std.specs.Option.{option_map}
-use Rattle.std.proofs.Math.Nat.{mul-le-mul_left, mul-le-mul_right}
-use Rattle.std.proofs.lemmas.List.{length-map, length-set}
-use Rattle.std.proofs.lemmas.Bool.Decides.{eqb_tells, nat_tests}
-use Rattle.std.proofs.lemmas.Option.{slice_get_within}
-use Rattle.st_events.specs.declared.events.Event.{Event}
-use Rattle.st_events.specs.declared.events.Event.TheVariants.{New, Load, Store, Cas, Launch, Retire}
+use Rattle.std.proofs.Math.Nat.{mul-le-mul_right}
+use Rattle.std.proofs.lemmas.Bool.Decides.{eqb_tells}
+use Rattle.st_events.specs.declared.events.Event.TheVariants.{New}
 use Rattle.st_events.specs.declared.limits.Sizes.{Sizes}
-use Rattle.st_events.specs.declared.shapes.Kind.{Kind}
-use Rattle.st_events.specs.declared.shapes.Kind.TheVariants.{Int, Bool as Truth, Ref}
-use Rattle.st_events.specs.Shape.{ShapeLists, kinds_of, IsWithinLimits}
-use Rattle.st_events.specs.Heap.{Heap, Object, class_at, word_at, word_of, with_object, with_word, set_word, fresh, first_heap}
-use Rattle.st_events.specs.World.{World, next, at, first_world, changed}
-use Rattle.st_events.specs.Legal.{IsLegalNext, next_object, has_kind, has_kind_if_any, is_of_class, kind_of, fits_cell}
-use Rattle.st_events.specs.Sound.{IsTypedHeap, IsMade, AreRegions, Extends}
-use Rattle.st_events.proofs.WorldLemmas.{at-same, at-other}
-use Rattle.st_events.proofs.LegalLemmas.{legal_new, legal_store, legal_cas, LegalNew, LegalStore}
+use Rattle.st_events.specs.Shape.{ShapeLists}
+use Rattle.st_events.specs.Heap.{Heap, Object, class_at, with_object, with_word, set_word, fresh}
+use Rattle.st_events.specs.World.{World, next, at, changed}
+use Rattle.st_events.specs.Sound.{IsMade, AreRegions}
+use Rattle.st_events.proofs.WorldLemmas.{at-same}
+use Rattle.st_events.proofs.LegalLemmas.{LegalNew}
 
 -- ---- the heap with one object more, and with one word set
 

@@ -1,17 +1,15 @@
 -- What holds after every legal journal
-use Rattle.std.proofs.Common.{◌≡◌, ◌≢◌, ℕ, ◌+◌, ◌*◌, ◌<◌, ◌≤◌, ◌==◌, cond, Bool, true, false, ◌⊎◌, inl, inr, List, [], ◌∷◌, ◌++◌, length, map, Option, Some, None, refl, sym, ◌∙◌, ap, subst, arith, IsSome}
-use Rattle.std.specs.Option.{option_map}
-use Rattle.std.proofs.lemmas.List.{length-map}
+use Rattle.std.proofs.Common.{◌≡◌, ℕ, ◌==◌, cond, Bool, true, false, inl, inr, List, Some, None, refl, sym, ◌∙◌, ap, arith}
 use Rattle.std.proofs.lemmas.Bool.Decides.{eqb_tells}
 use Rattle.st_events.specs.declared.events.Event.{Event}
 use Rattle.st_events.specs.declared.events.Event.TheVariants.{New, Load, Store, Cas, Launch, Retire}
 use Rattle.st_events.specs.declared.limits.Sizes.{Sizes}
-use Rattle.st_events.specs.Shape.{ShapeLists, IsWithinLimits, kinds_of}
-use Rattle.st_events.specs.Heap.{Heap, Object, class_at, word_at, word_of, fresh, first_heap, with_object}
+use Rattle.st_events.specs.Shape.{ShapeLists, IsWithinLimits}
+use Rattle.st_events.specs.Heap.{Object, fresh, first_heap}
 use Rattle.st_events.specs.World.{World, next, first_world, world_after, changed}
-use Rattle.st_events.specs.Legal.{IsLegalNext, IsLegal, fits_cell}
-use Rattle.st_events.specs.Sound.{IsTypedHeap, IsSound, AreRegions, AreLaunches, AreActive, AreStamps, ArePasts, AreCopies, IsNoted}
-use Rattle.st_events.proofs.LegalLemmas.{stays, legal_new, legal_store, legal_cas, legal_launch, legal_retire, LegalStore}
+use Rattle.st_events.specs.Legal.{IsLegalNext, IsLegal}
+use Rattle.st_events.specs.Sound.{IsSound}
+use Rattle.st_events.proofs.LegalLemmas.{stays, legal_new, legal_store, legal_cas, legal_launch, LegalStore}
 use Rattle.st_events.proofs.SoundHeap.{next_is_absent, regions-new, regions-changed}
 use Rattle.st_events.proofs.SoundTypes.{typed-first, typed-new, typed-changed}
 use Rattle.st_events.proofs.SoundChecks.{launches-launch, active-launch, active-retire, stamps-new, stamps-changed, pasts-new, pasts-changed, pasts-launch}

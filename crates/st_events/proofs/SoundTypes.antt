@@ -1,20 +1,18 @@
 -- The heap of a legal journal is typed, and a later heap has all that an earlier one has
-use Rattle.std.proofs.Common.{◌≡◌, ◌≢◌, ℕ, zero, suc, ◌+◌, ◌*◌, ◌<◌, ◌≤◌, ◌==◌, cond, Bool, true, false, ◌⊎◌, inl, inr, List, [], ◌∷◌, length, map, slice_get, Option, Some, None, refl, sym, ◌∙◌, ap, subst, arith, IsSome, is_some}
-use Rattle.std.specs.Prelude.{slice_set, nat_le, ◌||◌}
+use Rattle.std.proofs.Common.{◌≡◌, ◌≢◌, ℕ, zero, suc, ◌<◌, ◌==◌, cond, Bool, true, false, ◌⊎◌, inl, inr, List, [], ◌∷◌, length, map, slice_get, Option, Some, None, refl, sym, ◌∙◌, ap, subst, arith}
+use Rattle.std.specs.Prelude.{slice_set, ◌||◌}
 use Rattle.std.specs.Option.{option_map}
 use Rattle.std.proofs.lemmas.List.{length-map, length-set}
-use Rattle.std.proofs.lemmas.Bool.Decides.{eqb_tells, nat_tests}
+use Rattle.std.proofs.lemmas.Bool.Decides.{eqb_tells}
 use Rattle.std.proofs.lemmas.Option.{slice_get_within}
-use Rattle.st_events.specs.declared.limits.Sizes.{Sizes}
 use Rattle.st_events.specs.declared.shapes.Kind.{Kind}
 use Rattle.st_events.specs.declared.shapes.Kind.TheVariants.{Int, Bool as Truth, Ref}
 use Rattle.st_events.specs.Shape.{ShapeLists, kinds_of, IsWithinLimits}
 use Rattle.st_events.specs.Heap.{Heap, Object, class_at, word_at, word_of, with_object, with_word, set_word, fresh, first_heap}
-use Rattle.st_events.specs.World.{World}
 use Rattle.st_events.specs.Legal.{has_kind, has_kind_if_any, is_of_class, kind_of, fits_cell}
-use Rattle.st_events.specs.Sound.{IsTypedHeap, Extends}
+use Rattle.st_events.specs.Sound.{IsTypedHeap}
 use Rattle.st_events.proofs.HeapLemmas.{slice_get-set}
-use Rattle.st_events.proofs.SoundHeap.{with_object-same, with_object-other, with_word-same, with_word-other, class_at-with_word}
+use Rattle.st_events.proofs.SoundHeap.{with_object-same, with_object-other, with_word-other, class_at-with_word}
 
 -- ---- kinds are kept where classes are
 

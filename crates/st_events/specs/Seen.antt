@@ -1,8 +1,8 @@
-use Rattle.std.specs.Prelude.{◌≡◌, ℕ, ◌+◌, ◌*◌, List, [], length, get_or, Option, None}
+use Rattle.std.specs.Prelude.{◌≡◌, ◌+◌, ◌*◌, [], length, get_or, Option, None}
 use Rattle.st_events.specs.declared.events.Event.{Event}
 use Rattle.st_events.specs.declared.reasons.Why.{Why}
 use Rattle.st_events.specs.declared.replaying.Replay.{Replay}
-use Rattle.st_events.specs.Heap.{Heap, heap_of}
+use Rattle.st_events.specs.Heap.{heap_of}
 use Rattle.st_events.specs.World.{World}
 use Rattle.st_events.specs.Legal.{illegal_reason}
 

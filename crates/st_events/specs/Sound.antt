@@ -1,7 +1,6 @@
-use Rattle.std.specs.Prelude.{◌≡◌, ℕ, ◌+◌, ◌*◌, ◌<◌, ◌≤◌, ◌⊎◌, true, List, [], ◌∷◌, length, Option, Some, None, IsSome}
-use Rattle.st_events.specs.declared.events.Event.{Event}
+use Rattle.std.specs.Prelude.{◌≡◌, ℕ, ◌+◌, ◌*◌, ◌<◌, ◌≤◌, ◌⊎◌, true, List, [], ◌∷◌, length, Some, None, IsSome}
 use Rattle.st_events.specs.declared.limits.Sizes.{Sizes}
-use Rattle.st_events.specs.Shape.{ShapeLists, IsWithinLimits, kinds_of}
+use Rattle.st_events.specs.Shape.{ShapeLists, kinds_of}
 use Rattle.st_events.specs.Heap.{Heap, Object, class_at, word_at}
 use Rattle.st_events.specs.World.{World, Launched, is_among, is_kept, is_lost}
 use Rattle.st_events.specs.Legal.{fits_cell}

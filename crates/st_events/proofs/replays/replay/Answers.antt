@@ -1,12 +1,11 @@
-use Rattle.std.proofs.Common.{◌≡◌, ℕ, ◌∙◌, ap, sym, subst, arith, Some, None, Err, get_or, rules}
+use Rattle.std.proofs.Common.{◌≡◌, ℕ, ◌∙◌, sym, subst, arith, Some, None, get_or, rules}
 use Rattle.st_events.specs.declared.events.Event.TheVariants.{New}
 use Rattle.st_events.specs.declared.reasons.ReplayError.TheVariants.{NotLegal}
 use Rattle.st_events.specs.World.{next}
-use Rattle.st_events.specs.declared.events.Event.{Event}
 use Rattle.st_events.specs.declared.reasons.Why.{Why}
 use Rattle.st_events.specs.Seen.{seen, LooksAlike}
 use Rattle.st_events.specs.Legal.{illegal_reason, IsFirstIllegal}
-use Rattle.st_events.proofs.AlikeLemmas.{replayed-first, replayed-next, replayed-stop, IsReplayed}
+use Rattle.st_events.proofs.AlikeLemmas.{replayed-first, replayed-next, replayed-stop}
 use Rattle.st_events.proofs.replays.replay.Goals as goal
 
 -- two answers that are the same name the same place and reason
