@@ -4,6 +4,10 @@
 
 mod programs;
 mod refusals;
+mod symbols;
+mod syntax;
+mod terminals;
+mod trees;
 
 pub use programs::{Small, SmallStmt};
 pub use refusals::SmallError;
