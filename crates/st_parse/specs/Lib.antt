@@ -1,4 +1,5 @@
 pub mod Grammar
+pub mod Numbering
 pub mod Reading
 pub mod Small
 pub mod Views

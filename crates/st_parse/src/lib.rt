@@ -2,6 +2,8 @@
 //! It reads the tokens of a text into a program whose locals and fields are numbers.
 #![tactic(auto)]
 
+mod limits;
+mod names;
 mod programs;
 mod refusals;
 mod symbols;
