@@ -1,5 +1,6 @@
 -- A field that is read is what it is spelled as, and what a field is spelled as is read.
-use Rattle.std.proofs.Common.{◌≡◌, ℕ, Bool, true, false, cond, List, [], ◌∷◌, ◌++◌, Option, Some, None, refl, sym, ap, ◌∙◌}
+use Rattle.st_parse.proofs.BlockLemmas.{Reader}
+use Rattle.std.proofs.Common.{◌≡◌, ℕ, ◌<◌, length, arith, Bool, true, false, cond, List, [], ◌∷◌, ◌++◌, Option, Some, None, refl, sym, ap, ◌∙◌}
 use Rattle.std.specs.Prelude.{codes}
 use Rattle.std.specs.Str.{bytes_eq}
 use Rattle.std.proofs.lemmas.Option.{cond_some}
@@ -46,3 +47,6 @@ field_again f rest = field_again_at f.name f.kind rest
 pub field_opens : (f : Field) (rest : List Terminal) → mark_at (codes "}") (field_spelling f ++ rest) ≡ None
 unfolding mark_at
 field_opens f rest = refl
+
+pub field_reader : Reader field_at field_spelling
+field_reader = record { takes = field_takes; again = field_again; opens = field_opens; longer = λ f. omega arith }

@@ -1,5 +1,6 @@
 -- A statement that is read is what it is spelled as, and what a statement is spelled as is read.
-use Rattle.std.proofs.Common.{◌≡◌, ℕ, List, [], ◌∷◌, ◌++◌, Option, Some, None, refl, sym, ap, ◌∙◌}
+use Rattle.st_parse.proofs.BlockLemmas.{Reader}
+use Rattle.std.proofs.Common.{◌≡◌, ℕ, ◌<◌, length, arith, List, [], ◌∷◌, ◌++◌, Option, Some, None, refl, sym, ap, ◌∙◌}
 use Rattle.std.specs.Prelude.{codes}
 use Rattle.st_events.specs.declared.events.Site.{Site}
 use Rattle.st_parse.specs.Grammar.{Terminal, a_name, a_number, check_at, keyword, mark, Statement, make_local, put_field, check_field, statement_spelling}
@@ -87,3 +88,11 @@ unfolding mark_at
 statement_opens (make_local local class made) rest = refl
 statement_opens (put_field local field value) rest = refl
 statement_opens (check_field local field value site) rest = refl
+
+statement_longer : (s : Statement) → 0 < length (statement_spelling s)
+statement_longer (make_local local class made) = omega arith
+statement_longer (put_field local field value) = omega arith
+statement_longer (check_field local field value site) = omega arith
+
+pub statement_reader : Reader statement_at statement_spelling
+statement_reader = record { takes = statement_takes; again = statement_again; opens = statement_opens; longer = statement_longer }

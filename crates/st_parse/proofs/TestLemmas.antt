@@ -1,7 +1,7 @@
 -- Tests over a mapped list, as chains over its source make them.
-use Rattle.std.proofs.Common.{◌≡◌, ℕ, ◌+◌, Bool, true, false, cond, ◌||◌, ltb, not, List, [], ◌∷◌, length, map, Option, Some, None, refl, sym, ap, ◌∙◌, position}
+use Rattle.std.proofs.Common.{◌≡◌, ℕ, ◌+◌, Bool, true, false, cond, ◌||◌, ◌&&◌, ltb, not, List, [], ◌∷◌, length, map, Option, Some, None, refl, sym, ap, ◌∙◌, position}
 use Rattle.std.proofs.lemmas.List.{length-map}
-use Rattle.std.specs.List.{prefix_len, position_or_len, list_any}
+use Rattle.std.specs.List.{prefix_len, position_or_len, list_any, list_all}
 
 pub prefix_len_of_map : {X Y : Type 0} (p : Y → Bool) (f : X → Y) (xs : List X) → prefix_len p (map f xs) ≡ prefix_len (λ x. p (f x)) xs
 prefix_len_of_map p f [] = refl
@@ -15,3 +15,9 @@ position_of_map p f xs =
 pub list_any_of_map : {X Y : Type 0} (p : Y → Bool) (f : X → Y) (xs : List X) → list_any p (map f xs) ≡ list_any (λ x. p (f x)) xs
 list_any_of_map p f [] = refl
 list_any_of_map p f (x ∷ xs) = ap (λ b. p (f x) || b) (list_any_of_map p f xs)
+
+pub list_all_of_map : {X Y : Type 0} (p : Y → Bool) (f : X → Y) (xs : List X) → list_all p (map f xs) ≡ list_all (λ x. p (f x)) xs
+list_all_of_map p f [] = refl
+list_all_of_map p f (x ∷ xs) = ap (λ b. p (f x) && b) (list_all_of_map p f xs)
+
+pub ruleset tests_of_map = (list_any_of_map, list_all_of_map, position_of_map, length-map)

@@ -1,8 +1,9 @@
 //! From trees to numbers: the rules on names.
-ghost use Rattle.std.specs.Prelude.{◌≡◌, ◌<◌, ◌≤◌, ℕ, ◌&&◌, length, map, List, IfSome};
+ghost use Rattle.std.specs.Prelude.{◌≡◌, ◌<◌, ◌≤◌, ℕ, ◌&&◌, length, map, List, IfSome, position};
+ghost use Rattle.std.specs.List.{list_any, list_all};
 ghost use Rattle.std.specs.Str.{bytes_eq};
 ghost use Rattle.st_parse.specs.Reading.{Gives};
-ghost use Rattle.st_parse.specs.Numbering.{place_of, int_place_of, kind_of, is_of_class, are_distinct, is_class_right, numbered, numbered_body, numbered_program};
+ghost use Rattle.st_parse.specs.Numbering.{place_of, int_place_of, kind_of, is_int, is_of_class, are_distinct, is_class_right, numbered, numbered_body, numbered_program};
 ghost use Rattle.st_parse.specs.Views.{kind_view, field_view, statement_view, program_view, name_views};
 
 use crate::limits::{MOST_FIELDS, MOST_LOCALS, MOST_STATEMENTS};
@@ -12,36 +13,46 @@ use crate::trees::{FieldTree, KindTree, StmtTree, Tree};
 use st_events::Kind;
 use std::alloc::{AllocError, Global};
 
+/// Whether a field's kind is `int`.
+fn is_int(kind: KindTree) -> bool
+    ensures { result ≡ is_int (kind_view kind.entry) }
+{
+    matches!(kind, KindTree::Int)
+}
+
 /// The place of a local among those made so far.
-#[tactic(auto, using(crate::proofs::TestLemmas::position_of_map))]
 fn local_place(locals: &[&[u8]], name: &[u8]) -> Option<usize>
-    ensures value { result ≡ place_of (name_views locals.now) name.now }
+    ensures value { result ≡ position (λ l. bytes_eq l.now name.now) locals.now }
     ensures bound { IfSome result (λ place. place < length locals.now) }
 {
     locals.iter().position(|local| *local == name)
 }
 
 /// The place of the field that has this name and is `int`.
-#[tactic(auto, using(crate::proofs::TestLemmas::position_of_map))]
 fn int_field_place(fields: &[FieldTree], name: &[u8]) -> Option<usize>
-    ensures value { result ≡ int_place_of (map field_view fields.now) name.now }
+    ensures value { result ≡ position (λ f. bytes_eq f.name.now name.now && is_int (kind_view f.kind)) fields.now }
     ensures bound { IfSome result (λ place. place < length fields.now) }
 {
     fields
         .iter()
-        .position(|field| field.name == name && matches!(field.kind, KindTree::Int))
+        .position(|field| field.name == name && is_int(field.kind))
 }
 
-#[tactic(auto, using(crate::proofs::TestLemmas::list_any_of_map))]
+/// Whether a field has this name.
+fn has_field(fields: &[FieldTree], name: &[u8]) -> bool
+    ensures { result ≡ list_any (λ f. bytes_eq f.name.now name.now) fields.now }
+{
+    fields.iter().any(|field| field.name == name)
+}
+
 /// Whether no name stands twice.
+#[tactic(auto, using(crate::proofs::TestLemmas::list_any_of_map))]
 fn are_distinct(fields: &[FieldTree]) -> bool
     ensures { result ≡ are_distinct (map (λ f. f.name) (map field_view fields.now)) }
 {
-    match fields {
-        [] => true,
-        [first, rest @ ..] => {
-            !rest.iter().any(|field| field.name == first.name) && are_distinct(rest)
-        }
+    match fields.split_first() {
+        None => true,
+        Some((first, rest)) => !has_field(rest, first.name) && are_distinct(rest),
     }
 }
 
@@ -55,13 +66,19 @@ fn is_of_class(class: &[u8], kind: KindTree) -> bool
     }
 }
 
-#[tactic(auto, unfolding(crate::specs::Numbering::is_class_right))]
+/// Whether each field of kind class has this class.
+fn keep_class(class: &[u8], fields: &[FieldTree]) -> bool
+    ensures { result ≡ list_all (λ f. is_of_class class.now (kind_view f.kind)) fields.now }
+{
+    fields.iter().all(|field| is_of_class(class, field.kind))
+}
+
+/// Whether the class keeps the rules on its fields.
+#[tactic(auto, unfolding(crate::specs::Numbering::is_class_right), using(crate::proofs::TestLemmas::tests_of_map))]
 fn is_class_right(class: &[u8], fields: &[FieldTree]) -> bool
     ensures { result ≡ is_class_right class.now (map field_view fields.now) }
 {
-    fields.len() <= MOST_FIELDS
-        && are_distinct(fields)
-        && fields.iter().all(|field| is_of_class(class, field.kind))
+    fields.len() <= MOST_FIELDS && are_distinct(fields) && keep_class(class, fields)
 }
 
 /// The kind of a field, where the class has the number 1.
