@@ -57,7 +57,7 @@ module _ {A : Type 0} {item : List Terminal → Option (A × List Terminal)} {sp
   items_again (suc n) (x ∷ xs) rest lt =
       let tail : List Terminal = flat_map spelling xs ++ (mark (codes "}") ∷ rest) in
       let regrouped : flat_map spelling (x ∷ xs) ++ (mark (codes "}") ∷ rest) ≡ spelling x ++ tail =
-            ap (λ (o : List Terminal). o ++ (mark (codes "}") ∷ rest)) (flat_map-cons spelling x xs) ∙ append_assoc (spelling x) (flat_map spelling xs) (mark (codes "}") ∷ rest) in
+      ap (λ (o : List Terminal). o ++ (mark (codes "}") ∷ rest)) (flat_map-cons spelling x xs) ∙ append_assoc (spelling x) (flat_map spelling xs) (mark (codes "}") ∷ rest) in
       ap (items_at item (suc n)) regrouped ∙ rw (reader.opens x tail, reader.again x tail, items_again n xs rest (omega arith)) refl
 
   length-flat_map : (xs : List A) → length xs ≤ length (flat_map spelling xs)
@@ -67,7 +67,7 @@ module _ {A : Type 0} {item : List Terminal → Option (A × List Terminal)} {sp
   pub block_again : (xs : List A) (rest : List Terminal) → block_at item (flat_map spelling xs ++ (mark (codes "}") ∷ rest)) ≡ Some (xs, rest)
   block_again xs rest =
       items_again (suc (length (flat_map spelling xs ++ (mark (codes "}") ∷ rest)))) xs rest
-        (omega (arith, length-append (flat_map spelling xs) (mark (codes "}") ∷ rest), length-flat_map xs))
+      (omega (arith, length-append (flat_map spelling xs) (mark (codes "}") ∷ rest), length-flat_map xs))
 
   -- ---- a loop over the items, which has read some of them and stands at a place
 
@@ -107,9 +107,9 @@ module _ {A : Type 0} {item : List Terminal → Option (A × List Terminal)} {sp
       within = omega arith;
       few = omega arith;
       so_far =
-        with_no_front (items_at item (suc (length symbols) - 0) (terminals symbols))
-        ∙ (let e : suc (length symbols) - 0 ≡ suc (length symbols) = omega arith in ap (λ (n : ℕ). items_at item n (terminals symbols)) e)
-        ∙ ap (λ (n : ℕ). items_at item (suc n) (terminals symbols)) (sym (length-map symbols terminal));
+          with_no_front (items_at item (suc (length symbols) - 0) (terminals symbols))
+          ∙ (let e : suc (length symbols) - 0 ≡ suc (length symbols) = omega arith in ap (λ (n : ℕ). items_at item n (terminals symbols)) e)
+          ∙ ap (λ (n : ℕ). items_at item (suc n) (terminals symbols)) (sym (length-map symbols terminal));
     }
 
     left : (found : List X) (read : ℕ) → Going found read → suc (length symbols) - length found ≡ suc (length symbols - length found)
@@ -120,11 +120,11 @@ module _ {A : Type 0} {item : List Terminal → Option (A × List Terminal)} {sp
         → (length after ≤ length symbols) × (read < length symbols - length after) × (terminals (drop (length symbols - length after) symbols) ≡ terminals after)
     part read own after within some e =
         let sizes : length symbols - read ≡ length own + length after =
-              sym (length-drop read symbols) ∙ sym (length-map (drop read symbols) terminal) ∙ ap length e ∙ length-append own (terminals after) ∙ ap (λ (n : ℕ). length own + n) (length-map after terminal) in
+        sym (length-drop read symbols) ∙ sym (length-map (drop read symbols) terminal) ∙ ap length e ∙ length-append own (terminals after) ∙ ap (λ (n : ℕ). length own + n) (length-map after terminal) in
         let all : terminals symbols ≡ (take read (terminals symbols) ++ own) ++ terminals after =
-              sym (take-append-drop read (terminals symbols)) ∙ ap (λ (l : List Terminal). take read (terminals symbols) ++ l) (drop-map terminal read symbols ∙ e) ∙ sym (append_assoc (take read (terminals symbols)) own (terminals after)) in
+        sym (take-append-drop read (terminals symbols)) ∙ ap (λ (l : List Terminal). take read (terminals symbols) ++ l) (drop-map terminal read symbols ∙ e) ∙ sym (append_assoc (take read (terminals symbols)) own (terminals after)) in
         let place : length (take read (terminals symbols) ++ own) ≡ length symbols - length after =
-              omega (arith, length-append (take read (terminals symbols)) own, length-take read (terminals symbols), length-map symbols terminal, sizes) in
+        omega (arith, length-append (take read (terminals symbols)) own, length-take read (terminals symbols), length-map symbols terminal, sizes) in
         (omega arith, omega arith, sym (drop-map terminal (length symbols - length after) symbols) ∙ ap (drop (length symbols - length after)) all ∙ drop_at (take read (terminals symbols) ++ own) (terminals after) (length symbols - length after) place)
 
     next_part : (read : ℕ) (x : X) (after : List Symbol) → read ≤ length symbols → item (terminals (drop read symbols)) ≡ Some (view x, terminals after)
@@ -142,12 +142,12 @@ module _ {A : Type 0} {item : List Terminal → Option (A × List Terminal)} {sp
           within = omega arith;
           few = omega arith;
           so_far =
-            ap (λ (l : List A). with_front l (items_at item (suc (length symbols) - length (found ++ x ∷ [])) (terminals (drop (length symbols - length after) symbols)))) (map-append view found (x ∷ []))
-            ∙ ap (λ (n : ℕ). with_front (map view found ++ view x ∷ []) (items_at item n (terminals (drop (length symbols - length after) symbols)))) (let e1 : suc (length symbols) - length (found ++ x ∷ []) ≡ length symbols - length found = omega arith in e1)
-            ∙ ap (λ (l : List Terminal). with_front (map view found ++ view x ∷ []) (items_at item (length symbols - length found) l)) p.2
-            ∙ sym (goes_on (map view found) (length symbols - length found) (terminals (drop read symbols)) (view x) (terminals after) (none_from (mark_at (codes "}") (terminals (drop read symbols))) unclosed) e)
-            ∙ ap (λ (n : ℕ). with_front (map view found) (items_at item n (terminals (drop read symbols)))) (sym (left found read g))
-            ∙ g.so_far;
+              ap (λ (l : List A). with_front l (items_at item (suc (length symbols) - length (found ++ x ∷ [])) (terminals (drop (length symbols - length after) symbols)))) (map-append view found (x ∷ []))
+              ∙ ap (λ (n : ℕ). with_front (map view found ++ view x ∷ []) (items_at item n (terminals (drop (length symbols - length after) symbols)))) (let e1 : suc (length symbols) - length (found ++ x ∷ []) ≡ length symbols - length found = omega arith in e1)
+              ∙ ap (λ (l : List Terminal). with_front (map view found ++ view x ∷ []) (items_at item (length symbols - length found) l)) p.2
+              ∙ sym (goes_on (map view found) (length symbols - length found) (terminals (drop read symbols)) (view x) (terminals after) (none_from (mark_at (codes "}") (terminals (drop read symbols))) unclosed) e)
+              ∙ ap (λ (n : ℕ). with_front (map view found) (items_at item n (terminals (drop read symbols)))) (sym (left found read g))
+              ∙ g.so_far;
         }
 
     fails : (found : List X) (read : ℕ) → Going found read → is_some (mark_at (codes "}") (terminals (drop read symbols))) ≡ false → item (terminals (drop read symbols)) ≡ None

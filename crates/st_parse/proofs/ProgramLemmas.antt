@@ -64,11 +64,11 @@ program_takes ts p e =
     let body = bind_some (block_at statement_at thread.0.1) (λ body. ended (record { class = class.0.0; fields = fields.0.0; thread = thread.0.0; body = body.0 }) body.1) p thread.2 in
     let end = ended_takes (record { class = class.0.0; fields = fields.0.0; thread = thread.0.0; body = body.0.0 }) p body.0.1 body.2 in
     joined ts class.0 fields.0 thread.0 body.0 p (head_takes (codes "class") ts class.0 class.1) (items_take field_reader _ class.0.1 fields.0 fields.1)
-      (head_takes (codes "thread") fields.0.1 thread.0 thread.1) (items_take statement_reader _ thread.0.1 body.0 body.1) end.0 end.1
+    (head_takes (codes "thread") fields.0.1 thread.0 thread.1) (items_take statement_reader _ thread.0.1 body.0 body.1) end.0 end.1
 
 pub program_again : (p : Program) → program_at (program_spelling p) ≡ Some p
 program_again p =
     let fields_end : List Terminal = thread_spelling p.thread p.body in
     program_read (program_spelling p) (p.class, flat_map field_spelling p.fields ++ (mark (codes "}") ∷ fields_end)) (p.fields, fields_end)
-      (p.thread, flat_map statement_spelling p.body ++ (mark (codes "}") ∷ [])) (p.body, [])
-      (head_again (codes "class") p.class _) (block_again field_reader p.fields fields_end) (head_again (codes "thread") p.thread _) (block_again statement_reader p.body [])
+    (p.thread, flat_map statement_spelling p.body ++ (mark (codes "}") ∷ [])) (p.body, [])
+    (head_again (codes "class") p.class _) (block_again field_reader p.fields fields_end) (head_again (codes "thread") p.thread _) (block_again statement_reader p.body [])

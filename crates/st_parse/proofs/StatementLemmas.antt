@@ -16,8 +16,8 @@ make_takes ts x e =
     let new = bind_some (keyword_at (codes "new") class.0.1) (λ new. name_then (codes ";") new >>= λ made. Some (make_local local.0.0 class.0.0 made.0, made.1)) x class.2 in
     let made = bind_some (name_then (codes ";") new.0) (λ made. Some (make_local local.0.0 class.0.0 made.0, made.1)) x new.2 in
     joined ts var.0 local.0.0 local.0.1 class.0.0 class.0.1 new.0 made.0.0 made.0.1 x
-      (keyword_takes (codes "var") ts var.0 var.1) (name_then_takes (codes ":") var.0 local.0 local.1) (name_then_takes (codes "=") local.0.1 class.0 class.1)
-      (keyword_takes (codes "new") class.0.1 new.0 new.1) (name_then_takes (codes ";") new.0 made.0 made.1) (some_is (make_local local.0.0 class.0.0 made.0.0, made.0.1) x made.2)
+    (keyword_takes (codes "var") ts var.0 var.1) (name_then_takes (codes ":") var.0 local.0 local.1) (name_then_takes (codes "=") local.0.1 class.0 class.1)
+    (keyword_takes (codes "new") class.0.1 new.0 new.1) (name_then_takes (codes ";") new.0 made.0 made.1) (some_is (make_local local.0.0 class.0.0 made.0.0, made.0.1) x made.2)
   where
     joined : (ts a : List Terminal) (l : List ℕ) (b : List Terminal) (c : List ℕ) (d f : List Terminal) (m : List ℕ) (r : List Terminal) (x : Statement × List Terminal)
         → ts ≡ keyword (codes "var") ∷ a → a ≡ a_name l ∷ mark (codes ":") ∷ b → b ≡ a_name c ∷ mark (codes "=") ∷ d → d ≡ keyword (codes "new") ∷ f → f ≡ a_name m ∷ mark (codes ";") ∷ r
@@ -37,8 +37,8 @@ put_takes ts x e =
     let field = bind_some (name_then (codes "=") local.0.1) (λ field. number_then (codes ";") field.1 >>= λ value. Some (put_field local.0.0 field.0 value.0, value.1)) x local.2 in
     let value = bind_some (number_then (codes ";") field.0.1) (λ value. Some (put_field local.0.0 field.0.0 value.0, value.1)) x field.2 in
     joined ts local.0.0 local.0.1 field.0.0 field.0.1 value.0.0 value.0.1 x
-      (name_then_takes (codes ".") ts local.0 local.1) (name_then_takes (codes "=") local.0.1 field.0 field.1) (number_then_takes (codes ";") field.0.1 value.0 value.1)
-      (some_is (put_field local.0.0 field.0.0 value.0.0, value.0.1) x value.2)
+    (name_then_takes (codes ".") ts local.0 local.1) (name_then_takes (codes "=") local.0.1 field.0 field.1) (number_then_takes (codes ";") field.0.1 value.0 value.1)
+    (some_is (put_field local.0.0 field.0.0 value.0.0, value.0.1) x value.2)
   where
     joined : (ts : List Terminal) (l : List ℕ) (a : List Terminal) (f : List ℕ) (b : List Terminal) (v : ℕ) (r : List Terminal) (x : Statement × List Terminal)
         → ts ≡ a_name l ∷ mark (codes ".") ∷ a → a ≡ a_name f ∷ mark (codes "=") ∷ b → b ≡ a_number v ∷ mark (codes ";") ∷ r
@@ -56,8 +56,8 @@ check_takes ts x e =
     let field = bind_some (name_then (codes "==") local.0.1) (λ field. number_then (codes ";") field.1 >>= λ value. Some (check_field local.0.0 field.0 value.0 check.0.0, value.1)) x local.2 in
     let value = bind_some (number_then (codes ";") field.0.1) (λ value. Some (check_field local.0.0 field.0.0 value.0 check.0.0, value.1)) x field.2 in
     joined ts check.0.0 check.0.1 local.0.0 local.0.1 field.0.0 field.0.1 value.0.0 value.0.1 x
-      (check_word_takes ts check.0 check.1) (name_then_takes (codes ".") check.0.1 local.0 local.1) (name_then_takes (codes "==") local.0.1 field.0 field.1) (number_then_takes (codes ";") field.0.1 value.0 value.1)
-      (some_is (check_field local.0.0 field.0.0 value.0.0 check.0.0, value.0.1) x value.2)
+    (check_word_takes ts check.0 check.1) (name_then_takes (codes ".") check.0.1 local.0 local.1) (name_then_takes (codes "==") local.0.1 field.0 field.1) (number_then_takes (codes ";") field.0.1 value.0 value.1)
+    (some_is (check_field local.0.0 field.0.0 value.0.0 check.0.0, value.0.1) x value.2)
   where
     joined : (ts : List Terminal) (site : Site) (a : List Terminal) (l : List ℕ) (b : List Terminal) (f : List ℕ) (c : List Terminal) (v : ℕ) (r : List Terminal) (x : Statement × List Terminal)
         → ts ≡ check_at site ∷ a → a ≡ a_name l ∷ mark (codes ".") ∷ b → b ≡ a_name f ∷ mark (codes "==") ∷ c → c ≡ a_number v ∷ mark (codes ";") ∷ r

@@ -6,10 +6,16 @@ mod limits;
 mod names;
 mod programs;
 mod refusals;
+mod sources;
 mod symbols;
 mod syntax;
 mod terminals;
 mod trees;
 
+pub use limits::{MOST_FIELDS, MOST_LOCALS, MOST_STATEMENTS};
 pub use programs::{Small, SmallStmt};
 pub use refusals::SmallError;
+pub use sources::small;
+
+#[cfg(test)]
+mod tests;

@@ -1,9 +1,10 @@
 //! From trees to numbers: the rules on names.
-ghost use Rattle.std.specs.Prelude.{◌≡◌, ◌<◌, ◌≤◌, ℕ, ◌&&◌, length, map, List, IfSome, position};
+ghost use Rattle.std.specs.Prelude.{◌≡◌, ◌<◌, ◌≤◌, ℕ, ◌&&◌, [], ◌++◌, length, map, List, IfOk, OnOk, IfSome, position};
 ghost use Rattle.std.specs.List.{list_any, list_all};
 ghost use Rattle.std.specs.Str.{bytes_eq};
 ghost use Rattle.st_parse.specs.Reading.{Gives};
-ghost use Rattle.st_parse.specs.Numbering.{place_of, int_place_of, kind_of, is_int, is_of_class, are_distinct, is_class_right, numbered, numbered_body, numbered_program};
+ghost use Rattle.st_parse.specs.Numbering.{is_int, is_of_class, are_distinct, is_class_right, place_numbers, numbered, numbered_body, numbered_program};
+ghost use Rattle.st_parse.specs.Source.{kind_of, made_by};
 ghost use Rattle.st_parse.specs.Views.{kind_view, field_view, statement_view, program_view, name_views};
 
 use crate::limits::{MOST_FIELDS, MOST_LOCALS, MOST_STATEMENTS};
@@ -89,4 +90,124 @@ fn kind_of(kind: KindTree) -> Kind
         KindTree::Int => Kind::Int,
         KindTree::Class(_) => Kind::Ref(1),
     }
+}
+
+/// The kinds of the fields, in their order.
+fn kinds(alloc: Global, fields: &[FieldTree]) -> Result<Vec<Kind>, AllocError>
+    ensures { IfOk result (λ v. v.items ≡ map (λ f. kind_of (kind_view f.kind)) fields.now) }
+{
+    fields
+        .iter()
+        .map(|field| kind_of(field.kind))
+        .collect(alloc)
+}
+
+/// A local and an `int` field by their numbers.
+fn place(fields: &[FieldTree], locals: &[&[u8]], local: &[u8], field: &[u8]) -> Option<(u8, u8)>
+    requires few_fields { length fields.now ≤ MOST_FIELDS }
+    requires few_locals { length locals.now ≤ MOST_LOCALS }
+    ensures { result ≡ place_numbers (map field_view fields.now) (name_views locals.now) local.now field.now }
+{
+    let local = local_place(locals, local)?;
+    let field = int_field_place(fields, field)?;
+    Some((local as u8, field as u8))
+}
+
+/// A statement in numbers, where these locals were made before it.
+#[tactic(auto, unfolding(crate::specs::Numbering::numbered))]
+fn numbered(
+    class: &[u8],
+    fields: &[FieldTree],
+    locals: &[&[u8]],
+    statement: &StmtTree,
+) -> Option<SmallStmt>
+    requires few_fields { length fields.now ≤ MOST_FIELDS }
+    requires few_locals { length locals.now ≤ MOST_LOCALS }
+    ensures { result ≡ numbered class.now (map field_view fields.now) (name_views locals.now) (statement_view statement.now) }
+{
+    match *statement {
+        StmtTree::Make {
+            local,
+            class: named,
+            made,
+        } => {
+            let is_right = named == class
+                && made == class
+                && locals.len() < MOST_LOCALS
+                && local_place(locals, local).is_none();
+            is_right.then_some(SmallStmt::Make)
+        }
+        StmtTree::Put {
+            local,
+            field,
+            value,
+        } => {
+            let (local, field) = place(fields, locals, local, field)?;
+            Some(SmallStmt::Put {
+                local,
+                field,
+                value,
+            })
+        }
+        StmtTree::Check {
+            local,
+            field,
+            value,
+            site,
+        } => {
+            let (local, field) = place(fields, locals, local, field)?;
+            Some(SmallStmt::Check {
+                local,
+                field,
+                value,
+                site,
+            })
+        }
+    }
+}
+
+/// Adds the local that a statement makes.
+fn keep_made<'a>(locals: &mut Vec<&'a [u8]>, statement: &StmtTree<'a>) -> Result<(), AllocError>
+    ensures { OnOk result (name_views locals.new.items ≡ name_views locals.old.items ++ made_by (statement_view statement.now)) }
+{
+    match *statement {
+        StmtTree::Make { local, .. } => locals.push(local)?,
+        _ => {}
+    }
+    Ok(())
+}
+
+/// The statements in numbers.
+fn numbered_body(
+    alloc: Global,
+    class: &[u8],
+    fields: &[FieldTree],
+    body: &[StmtTree],
+) -> Result<Vec<SmallStmt>, SmallError>
+    requires { length fields.now ≤ MOST_FIELDS }
+    ensures { Gives (λ v. v.items) result (numbered_body class.now (map field_view fields.now) [] (map statement_view body.now)) }
+{
+    let mut numbers = Vec::new(alloc);
+    let mut locals = Vec::new(alloc);
+    for statement in body {
+        let number = numbered(class, fields, &locals, statement).ok_or(SmallError::NotBuilt)?;
+        numbers.push(number)?;
+        keep_made(&mut locals, statement)?;
+    }
+    Ok(numbers)
+}
+
+/// The program in numbers, where it keeps the rules.
+#[tactic(auto, unfolding(crate::specs::Numbering::numbered_program))]
+pub(crate) fn numbered_program(alloc: Global, tree: &Tree) -> Result<Small, SmallError>
+    ensures { Gives (λ s. s) result (numbered_program (program_view tree.now)) }
+{
+    if !is_class_right(tree.class, &tree.fields) || tree.body.len() > MOST_STATEMENTS {
+        return Err(SmallError::NotBuilt);
+    }
+    Ok(Small {
+        thread: Vec::from_slice(alloc, tree.thread)?,
+        fields: kinds(alloc, &tree.fields)?,
+        body: numbered_body(alloc, tree.class, &tree.fields, &tree.body)?,
+    })
 }

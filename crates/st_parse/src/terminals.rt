@@ -62,7 +62,10 @@ pub(crate) fn mark<'t, 'a>(symbols: &'t [Symbol<'a>], word: &[u8]) -> Option<&'t
 
 /// A name, and the mark after it.
 #[tactic(auto, unfolding(crate::specs::Reading::name_then))]
-pub(crate) fn name_then<'t, 'a>(symbols: &'t [Symbol<'a>], word: &[u8]) -> Option<(&'a [u8], &'t [Symbol<'a>])>
+pub(crate) fn name_then<'t, 'a>(
+    symbols: &'t [Symbol<'a>],
+    word: &[u8],
+) -> Option<(&'a [u8], &'t [Symbol<'a>])>
     ensures { Reads (λ x. (x.0.now, terminals x.1.now)) result (name_then word.now (terminals symbols.now)) }
 {
     let (name, rest) = name(symbols)?;
@@ -71,7 +74,10 @@ pub(crate) fn name_then<'t, 'a>(symbols: &'t [Symbol<'a>], word: &[u8]) -> Optio
 
 /// A number, and the mark after it.
 #[tactic(auto, unfolding(crate::specs::Reading::number_then))]
-pub(crate) fn number_then<'t, 'a>(symbols: &'t [Symbol<'a>], word: &[u8]) -> Option<(u64, &'t [Symbol<'a>])>
+pub(crate) fn number_then<'t, 'a>(
+    symbols: &'t [Symbol<'a>],
+    word: &[u8],
+) -> Option<(u64, &'t [Symbol<'a>])>
     ensures { Reads (λ x. (x.0, terminals x.1.now)) result (number_then word.now (terminals symbols.now)) }
 {
     let (value, rest) = number(symbols)?;
