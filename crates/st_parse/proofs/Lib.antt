@@ -1,5 +1,6 @@
 pub mod BlockLemmas
 pub mod FieldLemmas
+pub mod NumberLemmas
 pub mod ProgramLemmas
 pub mod ReadsLemmas
 pub mod StatementLemmas

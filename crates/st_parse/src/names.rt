@@ -1,9 +1,9 @@
 //! From trees to numbers: the rules on names.
-ghost use Rattle.std.specs.Prelude.{◌≡◌, ◌<◌, ◌≤◌, ℕ, ◌&&◌, [], ◌++◌, length, map, List, IfOk, OnOk, IfSome, position};
+ghost use Rattle.std.specs.Prelude.{◌≡◌, ◌<◌, ◌≤◌, ℕ, ◌&&◌, [], ◌++◌, length, map, List, IfOk, OnOk, IfSome, is_none, position};
 ghost use Rattle.std.specs.List.{list_any, list_all};
 ghost use Rattle.std.specs.Str.{bytes_eq};
 ghost use Rattle.st_parse.specs.Reading.{Gives};
-ghost use Rattle.st_parse.specs.Numbering.{is_int, is_of_class, are_distinct, is_class_right, place_numbers, numbered, numbered_body, numbered_program};
+ghost use Rattle.st_parse.specs.Numbering.{place_of, is_int, is_of_class, are_distinct, is_class_right, place_numbers, is_make_right, numbered, numbered_body, numbered_program};
 ghost use Rattle.st_parse.specs.Source.{kind_of, made_by};
 ghost use Rattle.st_parse.specs.Views.{kind_view, field_view, statement_view, program_view, name_views};
 
@@ -113,6 +113,23 @@ fn place(fields: &[FieldTree], locals: &[&[u8]], local: &[u8], field: &[u8]) -> 
     Some((local as u8, field as u8))
 }
 
+/// Whether no local made so far has this name.
+fn is_new(locals: &[&[u8]], name: &[u8]) -> bool
+    ensures { result ≡ is_none (place_of (name_views locals.now) name.now) }
+{
+    local_place(locals, name).is_none()
+}
+
+/// Whether a new local may be made so.
+fn is_make_right(class: &[u8], locals: &[&[u8]], local: &[u8], named: &[u8], made: &[u8]) -> bool
+    ensures { result ≡ is_make_right class.now (name_views locals.now) local.now named.now made.now }
+{
+    named == class
+        && made == class
+        && locals.len() < MOST_LOCALS
+        && is_new(locals, local)
+}
+
 /// A statement in numbers, where these locals were made before it.
 #[tactic(auto, unfolding(crate::specs::Numbering::numbered))]
 fn numbered(
@@ -131,10 +148,7 @@ fn numbered(
             class: named,
             made,
         } => {
-            let is_right = named == class
-                && made == class
-                && locals.len() < MOST_LOCALS
-                && local_place(locals, local).is_none();
+            let is_right = is_make_right(class, locals, local, named, made);
             is_right.then_some(SmallStmt::Make)
         }
         StmtTree::Put {
