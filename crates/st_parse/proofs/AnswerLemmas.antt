@@ -55,11 +55,6 @@ pub built_of : {X : Type 0} (view : X → SmallLists) (text : List ℕ) (r : Res
 built_of view text (Ok x) g = program_is_source text (view x) g
 built_of view text (Err e) g = tt
 
-pub only_one_of : {X : Type 0} (view : X → SmallLists) (text : List ℕ) (r : Result X SmallError) → Gives view r (program_of text)
-    → IfOk r (λ x. (other : SmallLists) → IsSmallSource text other → other ≡ view x)
-only_one_of view text (Ok x) g = λ other s. one_program text other (view x) s (program_is_source text (view x) g)
-only_one_of view text (Err e) g = tt
-
 pub not_built_of : {X : Type 0} (view : X → SmallLists) (text : List ℕ) (r : Result X SmallError) → Gives view r (program_of text)
     → IsErrOf r errors.NotBuilt → (program : SmallLists) → ¬ IsSmallSource text program
 not_built_of view text (Ok x) g e program s = absurd cc

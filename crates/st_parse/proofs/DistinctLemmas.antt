@@ -50,6 +50,7 @@ place_takes (m ∷ ms) n k e = by (bytes_eq m n) refl (place_takes ms n) e
     later : (o : Option ℕ) → ((j : ℕ) → o ≡ Some j → slice_get ms j ≡ Some n) → option_map suc o ≡ Some k → slice_get (m ∷ ms) k ≡ Some n
     later None ih f = absurd cc
     later (Some j) ih f = let e1 : suc j ≡ k = cc in ap (slice_get (m ∷ ms)) (sym e1) ∙ ih j refl
+
     by : (r : Bool) → bytes_eq m n ≡ r → ((j : ℕ) → place_of ms n ≡ Some j → slice_get ms j ≡ Some n) → cond r (Some 0) (option_map suc (place_of ms n)) ≡ Some k → slice_get (m ∷ ms) k ≡ Some n
     by true same ih f = let e0 : 0 ≡ k = cc in ap (slice_get (m ∷ ms)) (sym e0) ∙ ap (λ (x : List ℕ). Some x) (same_bytes m n same)
     by false other ih f = later (place_of ms n) ih f
@@ -91,11 +92,14 @@ int_place_takes (f ∷ fs) n k e = by (bytes_eq f.name n && is_int f.kind) refl 
     kind_is : (kind : FieldKind) → is_int kind ≡ true → kind ≡ int_kind
     kind_is int_kind h = refl
     kind_is (class_kind c) h = absurd cc
+
     made : (name : List ℕ) (kind : FieldKind) → name ≡ n → kind ≡ int_kind → some_field name kind ≡ some_field n int_kind
     made name kind p q = cc
+
     later : (o : Option ℕ) → ((j : ℕ) → o ≡ Some j → slice_get fs j ≡ Some (record { name = n; kind = int_kind })) → option_map suc o ≡ Some k → slice_get (f ∷ fs) k ≡ Some (record { name = n; kind = int_kind })
     later None ih g = absurd cc
     later (Some j) ih g = let e1 : suc j ≡ k = cc in ap (slice_get (f ∷ fs)) (sym e1) ∙ ih j refl
+
     by : (r : Bool) → (bytes_eq f.name n && is_int f.kind) ≡ r → ((j : ℕ) → int_place_of fs n ≡ Some j → slice_get fs j ≡ Some (record { name = n; kind = int_kind }))
         → cond r (Some 0) (option_map suc (int_place_of fs n)) ≡ Some k → slice_get (f ∷ fs) k ≡ Some (record { name = n; kind = int_kind })
     by true same ih g =
@@ -177,6 +181,7 @@ distinct_fresh (x ∷ xs) y ys d c = at_place (get_of_contains (x ∷ xs) y c).0
     middle : (zs : List (List ℕ)) → Contains (zs ++ y ∷ ys) y
     middle [] = first_in y ys
     middle (z ∷ zs) = later_in z (zs ++ y ∷ ys) y (middle zs)
+
     at_place : (k : ℕ) → slice_get (x ∷ xs) k ≡ Some y → ¬ Contains xs y → ⊥
     at_place zero e ih = let same : x ≡ y = cc in d.0 (rw same (middle xs))
     at_place (suc k) e ih = ih (contains_of_get xs k y e)
@@ -191,6 +196,7 @@ distinct_push (x ∷ xs) y d h = (λ c. either (Contains-append_cases xs (y ∷ 
     alone : (k : ℕ) → slice_get (y ∷ []) k ≡ Some x → ⊥
     alone zero e = let same : y ≡ x = cc in h (rw same (first_in x xs))
     alone (suc k) e = absurd cc
+
     either : Contains xs x ⊎ Contains (y ∷ []) x → ⊥
     either (inl c) = d.0 c
     either (inr c) = let g = get_of_contains (y ∷ []) x c in alone g.0 g.1

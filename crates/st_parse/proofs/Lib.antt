@@ -5,6 +5,7 @@ pub mod FieldLemmas
 pub mod NumberLemmas
 pub mod ProgramLemmas
 pub mod ReadsLemmas
+pub mod SoundLemmas
 pub mod SourceLemmas
 pub mod StatementLemmas
 pub mod TerminalLemmas

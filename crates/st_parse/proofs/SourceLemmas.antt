@@ -36,7 +36,7 @@ numbers_take fields before local field p e =
     let l = bind_some (place_of before local) (λ l. int_place_of fields field >>= λ f. Some (l, f)) p e in
     let f = bind_some (int_place_of fields field) (λ f. Some (l.0, f)) p l.2 in
     subst (λ (q : ℕ × ℕ). IsPlace fields before local field q.0 q.1) (some_is (l.0, f.0) p f.2)
-      (record { made = place_takes before local l.0 l.1; is_int = int_place_takes fields field f.0 f.1 })
+    (record { made = place_takes before local l.0 l.1; is_int = int_place_takes fields field f.0 f.1 })
 
 numbers_again : (fields : List Field) (before : List (List ℕ)) (local field : List ℕ) (l f : ℕ) → AreDistinct before → AreDistinct (map (λ g. g.name) fields)
     → IsPlace fields before local field l f → place_numbers fields before local field ≡ Some (pair l f)
@@ -110,11 +110,11 @@ unfolding numbered
 numbered_again class fields before (make_local local kind made) small.Make later fd d few names n =
     let ordered : AreDistinct (before ++ local ∷ later) = subst AreDistinct (append_assoc before (local ∷ []) later) d in
     let right = right_again class before local kind made (record {
-          kinds = names.0;
-          makes = names.1;
-          few = omega (arith, length-append before (local ∷ []), length-append (before ++ local ∷ []) later);
-          fresh = absent_place before local (distinct_fresh before local later ordered);
-        }) in
+      kinds = names.0;
+      makes = names.1;
+      few = omega (arith, length-append before (local ∷ []), length-append (before ++ local ∷ []) later);
+      fresh = absent_place before local (distinct_fresh before local later ordered);
+    }) in
     rw right refl
 numbered_again class fields before (make_local local kind made) (small.Put l f v) later fd d few names n = absurd n
 numbered_again class fields before (make_local local kind made) (small.Check l f v s) later fd d few names n = absurd n
@@ -131,7 +131,7 @@ numbered_again class fields before (check_field local field value site) (small.C
 
 -- ---- all statements
 
-regrouped : (before : List (List ℕ)) (s : Statement) (ss : List Statement) → before ++ locals_of (s ∷ ss) ≡ (before ++ made_by s) ++ locals_of ss
+pub regrouped : (before : List (List ℕ)) (s : Statement) (ss : List Statement) → before ++ locals_of (s ∷ ss) ≡ (before ++ made_by s) ++ locals_of ss
 regrouped before s ss = ap (λ (l : List (List ℕ)). before ++ l) (flat_map-cons made_by s ss) ∙ sym (append_assoc before (made_by s) (locals_of ss))
 
 -- what the statements are where they can be numbered
@@ -153,12 +153,12 @@ body_takes class fields before (s ∷ ss) ns e d few =
     let grown = grown_takes class fields before s first.0 first.1 d few in
     let more = body_takes class fields (before ++ made_by s) ss others.0 others.1 grown.0 grown.1 in
     subst (λ (l : List SmallStmt). AreRight class fields before (s ∷ ss) l) (some_is (first.0 ∷ others.0) ns others.2)
-      (record {
-        numbers = (one.0, more.numbers);
-        classes = (one.1, more.classes);
-        differ = subst AreDistinct (sym (regrouped before s ss)) more.differ;
-        few = subst (λ (l : List (List ℕ)). length l ≤ MOST_LOCALS) (sym (regrouped before s ss)) more.few;
-      })
+    (record {
+      numbers = (one.0, more.numbers);
+      classes = (one.1, more.classes);
+      differ = subst AreDistinct (sym (regrouped before s ss)) more.differ;
+      few = subst (λ (l : List (List ℕ)). length l ≤ MOST_LOCALS) (sym (regrouped before s ss)) more.few;
+    })
 
 body_again : (class : List ℕ) (fields : List Field) (before : List (List ℕ)) (ss : List Statement) (ns : List SmallStmt) → AreDistinct (map (λ f. f.name) fields) → AreRight class fields before ss ns
     → numbered_body class fields before ss ≡ Some ns
@@ -210,16 +210,18 @@ program_takes p small e =
     let class = both_true (nat_le (length p.fields) MOST_FIELDS && are_distinct (map (λ f. f.name) p.fields)) (list_all (λ f. is_of_class p.class f.kind) p.fields) tests.0 in
     let fields = both_true (nat_le (length p.fields) MOST_FIELDS) (are_distinct (map (λ f. f.name) p.fields)) class.0 in
     let body = bind_some (numbered_body p.class p.fields [] p.body) (λ body. Some (lists p.thread (map (λ f. kind_of f.kind) p.fields) body)) small made.1 in
-    let right = body_takes p.class p.fields [] p.body body.0 body.1 tt (omega arith) in
-    (record {
-      field_classes = kinds_take p.class p.fields class.1;
-      local_classes = right.classes;
-      fields_differ = distinct_takes (map (λ f. f.name) p.fields) fields.1;
-      locals_differ = right.differ;
-      few_fields = leb-true _ _ fields.0;
-      few_locals = right.few;
-      few_statements = leb-true _ _ tests.1;
-    }, subst (HasNumbers p) (some_is (lists p.thread (map (λ f. kind_of f.kind) p.fields) body.0) small body.2) (record { thread = refl; fields = refl; body = right.numbers }))
+    let right = body_takes p.class p.fields [] p.body body.0 body.1 tt (omega arith) in (
+      record {
+        field_classes = kinds_take p.class p.fields class.1;
+        local_classes = right.classes;
+        fields_differ = distinct_takes (map (λ f. f.name) p.fields) fields.1;
+        locals_differ = right.differ;
+        few_fields = leb-true _ _ fields.0;
+        few_locals = right.few;
+        few_statements = leb-true _ _ tests.1;
+      },
+      subst (HasNumbers p) (some_is (lists p.thread (map (λ f. kind_of f.kind) p.fields) body.0) small body.2) (record { thread = refl; fields = refl; body = right.numbers }),
+    )
 
 pub program_again : (p : Program) (small : SmallLists) → KeepsRules p → HasNumbers p small → numbered_program p ≡ Some small
 unfolding numbered_program is_class_right

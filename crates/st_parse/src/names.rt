@@ -124,10 +124,7 @@ fn is_new(locals: &[&[u8]], name: &[u8]) -> bool
 fn is_make_right(class: &[u8], locals: &[&[u8]], local: &[u8], named: &[u8], made: &[u8]) -> bool
     ensures { result ≡ is_make_right class.now (name_views locals.now) local.now named.now made.now }
 {
-    named == class
-        && made == class
-        && locals.len() < MOST_LOCALS
-        && is_new(locals, local)
+    named == class && made == class && locals.len() < MOST_LOCALS && is_new(locals, local)
 }
 
 /// A statement in numbers, where these locals were made before it.

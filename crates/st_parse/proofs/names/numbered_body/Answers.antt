@@ -18,8 +18,8 @@ returns-in_err-number c =
     let i = c.loop-statement.statement-index in
     let same = ap (λ (ls : List (Bor (List ℕ))). numbered class fields (name_views ls) (statement_view (get_or c.args.body.now i no_statement))) (sym c.deref.ensures.value) in
     gives_of_none (λ v. v.items) c.from_residual.result (numbered_body class fields [] (map statement_view c.args.body.now)) c.from_residual.ensures.0
-      (fails_at class fields c.loop-statement.numbers.items (name_views c.loop-statement.locals.items) c.args.body.now i no_statement _ c.loop-statement-test.true
-        (same ∙ sym c.numbered.ensures ∙ c.in_err-number.ensures.ok_part) c.loop-statement.invariant.so_far)
+    (fails_at class fields c.loop-statement.numbers.items (name_views c.loop-statement.locals.items) c.args.body.now i no_statement _ c.loop-statement-test.true
+    (same ∙ sym c.numbered.ensures ∙ c.in_err-number.ensures.ok_part) c.loop-statement.invariant.so_far)
 
 pub loop-statement-preserved : goal.loop-statement-preserved
 loop-statement-preserved c =
@@ -37,7 +37,7 @@ loop-statement-preserved c =
     record {
       few = omega (arith, length-map c.keep_made.new.locals.items (λ n. n.now), ap length kept);
       so_far =
-        rw (c.in_ok-push.ensures.items, kept)
+          rw (c.in_ok-push.ensures.items, kept)
           (goes_at class fields c.loop-statement.numbers.items locals c.args.body.now i no_statement c.in_ok-number.number _ c.loop-statement-test.true right c.loop-statement.invariant.so_far);
     }
 

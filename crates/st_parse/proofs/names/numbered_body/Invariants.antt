@@ -9,5 +9,5 @@ abbrev pub invariant-loop-statement : goal.invariant-loop-statement
 invariant-loop-statement l = record {
   few : length l.locals.items ≤ MOST_LOCALS;
   so_far : with_numbers l.numbers.items (numbered_body l.class (map field_view l.fields) (name_views l.locals.items) (map statement_view (drop l.statement-index l.body)))
-    ≡ numbered_body l.class (map field_view l.fields) [] (map statement_view l.body);
+      ≡ numbered_body l.class (map field_view l.fields) [] (map statement_view l.body);
 }

@@ -19,10 +19,10 @@ returns c =
     let fields = c.args.tree.now.fields.items in
     let body = c.args.tree.now.body.items in
     program_numbered (program_view c.args.tree.now) c.in_ok-from_slice.field-0.items c.in_ok-kinds.field-0.items c.in_ok-numbered_body.field-0.items
-      c.in_ok-from_slice.ensures.items
-      (c.in_ok-kinds.ensures ∙ ap (λ (fs : List FieldTree). map (λ f. kind_of (kind_view f.kind)) fs) c.deref-2.ensures.value ∙ kinds_of_views fields)
-      (ap (λ (fs : List FieldTree). is_class_right c.args.tree.now.class.now (map field_view fs)) (sym c.deref.ensures.value) ∙ sym c.is_class_right.ensures ∙ c.if-not-is_class_right.false)
-      (omega (arith, length-map body statement_view, c.len.ensures))
-      (ap (λ (fs : List FieldTree). numbered_body c.args.tree.now.class.now (map field_view fs) [] (map statement_view body)) (sym c.deref-3.ensures.value)
-      ∙ ap (λ (ss : List StmtTree). numbered_body c.args.tree.now.class.now (map field_view c.deref-3.result.now) [] (map statement_view ss)) (sym c.deref-4.ensures.value)
-      ∙ c.in_ok-numbered_body.ensures)
+    c.in_ok-from_slice.ensures.items
+    (c.in_ok-kinds.ensures ∙ ap (λ (fs : List FieldTree). map (λ f. kind_of (kind_view f.kind)) fs) c.deref-2.ensures.value ∙ kinds_of_views fields)
+    (ap (λ (fs : List FieldTree). is_class_right c.args.tree.now.class.now (map field_view fs)) (sym c.deref.ensures.value) ∙ sym c.is_class_right.ensures ∙ c.if-not-is_class_right.false)
+    (omega (arith, length-map body statement_view, c.len.ensures))
+    (ap (λ (fs : List FieldTree). numbered_body c.args.tree.now.class.now (map field_view fs) [] (map statement_view body)) (sym c.deref-3.ensures.value)
+    ∙ ap (λ (ss : List StmtTree). numbered_body c.args.tree.now.class.now (map field_view c.deref-3.result.now) [] (map statement_view ss)) (sym c.deref-4.ensures.value)
+    ∙ c.in_ok-numbered_body.ensures)
