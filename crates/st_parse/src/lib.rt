@@ -2,12 +2,14 @@
 //! It reads the tokens of a text into a program whose locals and fields are numbers.
 #![tactic(auto)]
 
+mod classes;
 mod laws;
 mod limits;
 mod names;
 mod programs;
 mod refusals;
 mod sources;
+mod statements;
 mod symbols;
 mod syntax;
 mod terminals;

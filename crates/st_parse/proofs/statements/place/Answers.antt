@@ -1,6 +1,6 @@
 use Rattle.std.proofs.Common.{◌∙◌}
 use Rattle.st_parse.proofs.TestLemmas.{no_local, no_field, both}
-use Rattle.st_parse.proofs.names.place.Goals as goal
+use Rattle.st_parse.proofs.statements.place.Goals as goal
 
 pub returns-in_err-local : goal.returns-in_err-local
 returns-in_err-local c =

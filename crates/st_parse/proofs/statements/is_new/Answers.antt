@@ -1,7 +1,7 @@
 use Rattle.std.proofs.Common.{◌∙◌}
 use Rattle.st_parse.proofs.NumberLemmas.{new_is}
 use Rattle.st_parse.proofs.TestLemmas.{place_of_views}
-use Rattle.st_parse.proofs.names.is_new.Goals as goal
+use Rattle.st_parse.proofs.statements.is_new.Goals as goal
 
 pub returns : goal.returns
 returns c =

@@ -3,7 +3,7 @@ use Rattle.st_parse.specs.declared.limits.TheConstants.{MOST_LOCALS}
 use Rattle.st_parse.specs.Numbering.{numbered_body}
 use Rattle.st_parse.specs.Views.{field_view, statement_view, name_views}
 use Rattle.st_parse.proofs.NumberLemmas.{with_numbers}
-use Rattle.st_parse.proofs.names.numbered_body.Given as goal
+use Rattle.st_parse.proofs.statements.numbered_body.Given as goal
 
 abbrev pub invariant-loop-statement : goal.invariant-loop-statement
 invariant-loop-statement l = record {

@@ -9,7 +9,7 @@ use Rattle.st_parse.specs.Source.{made_by}
 use Rattle.st_parse.specs.Views.{field_view, statement_view, name_views}
 use Rattle.st_parse.proofs.NumberLemmas.{with_numbers, all_made, still_few, fails_at, goes_at, no_statement}
 use Rattle.st_parse.proofs.ReadsLemmas.{gives_of_none}
-use Rattle.st_parse.proofs.names.numbered_body.Goals as goal
+use Rattle.st_parse.proofs.statements.numbered_body.Goals as goal
 
 pub returns-in_err-number : goal.returns-in_err-number
 returns-in_err-number c =
