@@ -1,9 +1,8 @@
 -- The one answer that a text has is its source's program, and there is none where the text is no source.
-use Rattle.std.proofs.Common.{◌≡◌, ℕ, List, map, Option, Some, None, Result, Ok, Err, refl, sym, ap, ◌∙◌}
+use Rattle.std.proofs.Common.{◌≡◌, ℕ, List, map, Option, Some, Result, Ok, Err, refl, sym, ap, ◌∙◌}
 use Rattle.std.specs.Prelude.{IfOk, IsErrOf}
 use Rattle.st_lex.specs.declared.kinds.Token.{Token}
 use Rattle.st_lex.specs.Reading.{Stop, read_tokens}
-use Rattle.st_lex.specs.Tokens.{IsTokensOf}
 use Rattle.st_lex.proofs.Exact.{tokens_are_read, read_is_tokens}
 use Rattle.st_parse.specs.declared.refusals.SmallError.{SmallError}
 use Rattle.st_parse.specs.declared.refusals.SmallError.TheVariants as errors

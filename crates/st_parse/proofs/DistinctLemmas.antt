@@ -1,5 +1,5 @@
 -- Names that stand once, and their places.
-use Rattle.std.proofs.Common.{◌≡◌, ℕ, zero, suc, ◌+◌, ◌<◌, Bool, true, false, cond, ◌||◌, ◌&&◌, not, List, [], ◌∷◌, ◌++◌, length, map, get_or, Option, Some, None, refl, sym, ap, subst, ◌∙◌, arith, inl, inr}
+use Rattle.std.proofs.Common.{◌≡◌, ℕ, zero, suc, Bool, true, false, cond, ◌||◌, ◌&&◌, not, List, [], ◌∷◌, ◌++◌, map, Option, Some, None, refl, sym, ap, subst, ◌∙◌, inl, inr}
 use Rattle.std.specs.Prelude.{Contains, slice_get, ◌⊎◌}
 use Rattle.std.specs.List.{list_any}
 use Rattle.std.specs.Option.{option_map}
@@ -7,7 +7,7 @@ use Rattle.std.specs.Str.{bytes_eq}
 use Rattle.std.proofs.lemmas.List.Elements.{Contains-append_left, Contains-append_cases}
 use Rattle.std.proofs.lemmas.Option.{slice_get_within, get_or_from_slice_get, slice_get-get_or}
 use Rattle.st_parse.specs.Grammar.{FieldKind, int_kind, class_kind, Field}
-use Rattle.st_parse.specs.Numbering.{first_at, place_of, int_place_of, is_int, are_distinct}
+use Rattle.st_parse.specs.Numbering.{place_of, int_place_of, is_int, are_distinct}
 use Rattle.st_parse.specs.Source.{AreDistinct}
 use Rattle.st_parse.proofs.TerminalLemmas.{same_bytes, bytes_eq_self, some_is}
 use Rattle.st_parse.proofs.NumberLemmas.{both_true}

@@ -4,7 +4,7 @@ use Rattle.std.specs.Prelude.{is_none, is_some, nat_le}
 use Rattle.std.specs.Str.{bytes_eq}
 use Rattle.std.specs.List.{list_all}
 use Rattle.std.proofs.lemmas.Bool.{ltb-true, leb-true, le-leb}
-use Rattle.std.proofs.lemmas.List.{append-nil, length-map}
+use Rattle.std.proofs.lemmas.List.{append-nil}
 use Rattle.std.proofs.lemmas.Option.{cond_some}
 use Rattle.std.proofs.Math.Seq.{drop-cons}
 use Rattle.st_parse.specs.declared.limits.TheConstants.{MOST_FIELDS, MOST_LOCALS, MOST_STATEMENTS}

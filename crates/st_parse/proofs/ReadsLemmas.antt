@@ -1,5 +1,5 @@
 -- What a function returned, where the variant is known.
-use Rattle.std.proofs.Common.{◌≡◌, Option, Some, None, Result, Ok, Err, IsErr, refl, sym, ap, ◌∙◌}
+use Rattle.std.proofs.Common.{◌≡◌, Option, Some, None, Result, Ok, Err, IsErr}
 use Rattle.st_parse.specs.declared.refusals.SmallError.{SmallError}
 use Rattle.st_parse.specs.declared.refusals.SmallError.TheVariants as errors
 use Rattle.st_parse.specs.Reading.{Reads, Fails, Gives}

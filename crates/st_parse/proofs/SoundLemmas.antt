@@ -1,20 +1,16 @@
 -- A program in numbers stays within its numbers.
-use Rattle.std.proofs.Common.{◌≡◌, ℕ, suc, ◌+◌, ◌<◌, ◌≤◌, List, [], ◌∷◌, ◌++◌, length, map, Option, Some, None, refl, sym, ap, subst, ◌∙◌, append_assoc, arith, length-append}
-use Rattle.std.specs.Prelude.{slice_get}
-use Rattle.std.specs.List.{flat_map}
+use Rattle.std.proofs.Common.{◌≡◌, ℕ, suc, ◌+◌, ◌≤◌, List, [], ◌∷◌, ◌++◌, length, map, refl, sym, ap, subst, ◌∙◌, arith, length-append}
 use Rattle.std.specs.Option.{option_map}
 use Rattle.std.proofs.lemmas.List.{length-map, append-nil}
-use Rattle.std.proofs.lemmas.List.Concat.{flat_map-cons}
 use Rattle.std.proofs.lemmas.Option.{slice_get-map, slice_get_within}
 use Rattle.st_events.specs.declared.shapes.Kind.{Kind}
-use Rattle.st_events.specs.declared.shapes.Kind.TheVariants.{Int}
-use Rattle.st_parse.specs.declared.limits.TheConstants.{MOST_FIELDS, MOST_LOCALS, MOST_STATEMENTS}
+use Rattle.st_parse.specs.declared.limits.TheConstants.{MOST_LOCALS}
 use Rattle.st_parse.specs.declared.programs.SmallStmt.{SmallStmt}
 use Rattle.st_parse.specs.declared.programs.SmallStmt.TheVariants as small
-use Rattle.st_parse.specs.Grammar.{int_kind, Field, Statement, make_local, put_field, check_field, Program}
+use Rattle.st_parse.specs.Grammar.{Field, Statement, make_local, put_field, check_field, Program}
 use Rattle.st_parse.specs.Small.{SmallLists}
 use Rattle.st_parse.specs.Sound.{IsWithin, AreSound, IsSound}
-use Rattle.st_parse.specs.Source.{made_by, locals_of, KeepsRules, IsPlace, IsNumbered, AreNumbered, kind_of, HasNumbers, IsSmallSource}
+use Rattle.st_parse.specs.Source.{made_by, locals_of, KeepsRules, IsPlace, AreNumbered, kind_of, IsSmallSource}
 use Rattle.st_parse.proofs.SourceLemmas.{regrouped}
 
 abbrev kinds_of : List Field → List Kind

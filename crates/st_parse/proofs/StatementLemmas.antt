@@ -1,6 +1,6 @@
 -- A statement that is read is what it is spelled as, and what a statement is spelled as is read.
 use Rattle.st_parse.proofs.BlockLemmas.{Reader}
-use Rattle.std.proofs.Common.{◌≡◌, ℕ, ◌<◌, length, arith, List, [], ◌∷◌, ◌++◌, Option, Some, None, refl, sym, ap, ◌∙◌}
+use Rattle.std.proofs.Common.{◌≡◌, ℕ, ◌<◌, length, arith, List, [], ◌∷◌, ◌++◌, Some, None, refl, ap, ◌∙◌}
 use Rattle.std.specs.Prelude.{codes}
 use Rattle.st_events.specs.declared.events.Site.{Site}
 use Rattle.st_parse.specs.Grammar.{Terminal, a_name, a_number, check_at, keyword, mark, Statement, make_local, put_field, check_field, statement_spelling}

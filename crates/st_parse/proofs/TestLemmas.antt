@@ -1,7 +1,7 @@
 -- Tests over a mapped list, as chains over its source make them.
-use Rattle.std.proofs.Common.{◌≡◌, ℕ, suc, ◌+◌, ◌<◌, ◌≤◌, Bool, true, false, cond, ◌||◌, ◌&&◌, ltb, not, List, [], ◌∷◌, length, map, Option, Some, None, refl, sym, ap, ◌∙◌, position, arith, inl, inr}
+use Rattle.std.proofs.Common.{◌≡◌, ℕ, suc, ◌+◌, Bool, true, false, cond, ◌||◌, ◌&&◌, ltb, not, List, [], ◌∷◌, length, map, Option, Some, None, refl, sym, ap, ◌∙◌, position, arith, inl, inr}
 use Rattle.std.specs.Borrow.{Bor}
-use Rattle.std.specs.List.{prefix_len, position_or_len, list_any, list_all}
+use Rattle.std.specs.List.{prefix_len, list_any, list_all}
 use Rattle.std.specs.Option.{option_map}
 use Rattle.std.specs.Str.{bytes_eq}
 use Rattle.std.proofs.lemmas.Bool.{cases_lt, lt-ltb, le-ltb}

@@ -1,5 +1,5 @@
 -- The one answer that a text has.
-use Rattle.std.specs.Prelude.{ℕ, List, map, Option, Some, None, Result, Ok, Err}
+use Rattle.std.specs.Prelude.{ℕ, List, map, Option, None, Result, Ok, Err}
 use Rattle.st_lex.specs.declared.kinds.Token.{Token}
 use Rattle.st_lex.specs.Reading.{Stop, read_tokens}
 use Rattle.st_parse.specs.Numbering.{numbered_program}

@@ -1,5 +1,5 @@
 -- Names as numbers, as far as the rules on names are kept.
-use Rattle.std.specs.Prelude.{◌≡◌, ℕ, List, [], ◌∷◌, ◌++◌, suc, length, map, Bool, true, false, ◌&&◌, not, nat_lt, nat_le, is_none, Option, Some, None, if◌then◌else◌}
+use Rattle.std.specs.Prelude.{ℕ, List, [], ◌∷◌, ◌++◌, suc, length, map, Bool, true, false, ◌&&◌, not, nat_lt, nat_le, is_none, Option, Some, None, if◌then◌else◌}
 use Rattle.std.specs.List.{list_all, list_any}
 use Rattle.std.specs.Option.{option_map}
 use Rattle.std.specs.Str.{bytes_eq}

@@ -1,6 +1,6 @@
-use Rattle.std.proofs.Common.{◌≡◌, ◌≤◌, List, [], length, map, Some, sym, ap, ◌∙◌, arith}
+use Rattle.std.proofs.Common.{◌≤◌, List, [], length, map, sym, ap, ◌∙◌, arith}
 use Rattle.std.proofs.lemmas.List.{length-map}
-use Rattle.st_parse.specs.declared.limits.TheConstants.{MOST_FIELDS, MOST_STATEMENTS}
+use Rattle.st_parse.specs.declared.limits.TheConstants.{MOST_FIELDS}
 use Rattle.st_parse.specs.declared.trees.FieldTree.{FieldTree}
 use Rattle.st_parse.specs.declared.trees.StmtTree.{StmtTree}
 use Rattle.st_parse.specs.Numbering.{is_class_right, numbered_body}

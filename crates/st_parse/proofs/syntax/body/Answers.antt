@@ -1,8 +1,8 @@
-use Rattle.std.proofs.Common.{◌≡◌, ◌-◌, ◌<◌, ◌≤◌, length, map, sym, ◌∙◌, arith}
+use Rattle.std.proofs.Common.{◌-◌, ◌<◌, length, map, sym, ◌∙◌, arith}
 use Rattle.st_parse.specs.Reading.{block_at, statement_at}
 use Rattle.st_parse.specs.Views.{terminals, statement_view}
 use Rattle.st_parse.proofs.StatementLemmas.{statement_reader}
-use Rattle.st_parse.proofs.BlockLemmas.{begins, shorter, Going-step, Going-fails, Going-ends}
+use Rattle.st_parse.proofs.BlockLemmas.{shorter, Going-step, Going-fails, Going-ends}
 use Rattle.st_parse.proofs.ReadsLemmas.{reads_some, reads_none, gives_of_none}
 use Rattle.st_parse.proofs.syntax.body.Goals as goal
 

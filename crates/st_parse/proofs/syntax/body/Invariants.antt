@@ -1,5 +1,4 @@
 use Rattle.std.proofs.Common.{◌-◌, length}
-use Rattle.st_parse.specs.Reading.{statement_at}
 use Rattle.st_parse.specs.Views.{statement_view}
 use Rattle.st_parse.proofs.StatementLemmas.{statement_reader}
 use Rattle.st_parse.proofs.BlockLemmas.{Going}

@@ -1,5 +1,4 @@
 use Rattle.std.proofs.Common.{◌-◌, length}
-use Rattle.st_parse.specs.Reading.{field_at}
 use Rattle.st_parse.specs.Views.{field_view}
 use Rattle.st_parse.proofs.FieldLemmas.{field_reader}
 use Rattle.st_parse.proofs.BlockLemmas.{Going}
