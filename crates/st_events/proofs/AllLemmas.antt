@@ -1,5 +1,5 @@
 -- What holds of each element of a list, and of each element's image
-use Rattle.std.proofs.Common.{◌≡◌, ℕ, ◌<◌, List, length, map, All, subst, arith, Vec, Global}
+use Rattle.std.proofs.Common.{List, map, All, subst, arith, Vec, Global}
 use Rattle.std.proofs.lemmas.List.{length-map, get_or-map}
 use Rattle.std.proofs.lemmas.List.Elements.{All-map}
 

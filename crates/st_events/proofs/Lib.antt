@@ -1,3 +1,5 @@
 mod AllLemmas
+mod CellLemmas
 mod Examples
+pub mod HeapLemmas
 mod ShapeLemmas

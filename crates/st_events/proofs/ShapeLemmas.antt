@@ -4,7 +4,7 @@ use Rattle.std.proofs.lemmas.List.{length-map}
 use Rattle.st_events.specs.declared.shapes.Kind.{Kind}
 use Rattle.st_events.specs.declared.shapes.TheConstants.{MOST_CLASSES, MOST_FIELDS, MOST_CHECKS, MOST_ARGS}
 use Rattle.st_events.specs.Kind.{AreKindsWithin}
-use Rattle.st_events.specs.Shape.{ShapeLists, IsWithinLimits, lists_of}
+use Rattle.st_events.specs.Shape.{IsWithinLimits, lists_of}
 
 abbrev AreWithin : ℕ → ℕ → List (Vec Kind Global) → Type 0
 AreWithin most n vs = All (AreKindsWithin most n) (map (λ v. v.items) vs)
@@ -17,7 +17,7 @@ within_limits classes checks n fields arguments =
       classes = omega (arith, n.1, same);
       checks = omega (arith, n.2, length-map checks (λ (v : Vec Kind Global). v.items));
       fields = subst (λ (k : ℕ). AreWithin MOST_FIELDS k classes) (sym same) fields;
-      arguments = subst (λ (k : ℕ). AreWithin MOST_ARGS k checks) (sym same) arguments
+      arguments = subst (λ (k : ℕ). AreWithin MOST_ARGS k checks) (sym same) arguments;
     }
 
 pub arguments_within : (classes checks : List (Vec Kind Global)) → IsWithinLimits (lists_of classes checks) → AreWithin MOST_ARGS (length classes) checks

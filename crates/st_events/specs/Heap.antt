@@ -1,6 +1,5 @@
-use Rattle.std.specs.Prelude.{ℕ, ◌==◌, cond, List, [], map, slice_get, slice_set, Option, Some, None, option_map}
+use Rattle.std.specs.Prelude.{ℕ, ◌==◌, cond, List, map, slice_get, slice_set, Option, Some, None, option_map}
 use Rattle.std.specs.Option.{option_flatten}
-use Rattle.st_events.specs.declared.shapes.Kind.{Kind}
 use Rattle.st_events.specs.Shape.{ShapeLists, kinds_of}
 
 -- an object: the number of its class, and one word for each field of that class

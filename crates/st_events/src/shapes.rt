@@ -105,7 +105,9 @@ fn counts_fit(classes: usize, checks: usize) -> bool
 fn lists_fit(lists: &[Vec<Kind>], most: usize, classes: usize) -> bool
     ensures { IsTrue result ↔ All (AreKindsWithin most classes) (map (λ l. l.items) lists.now) }
 {
-    lists.iter().all(|kinds| kinds_fit(kinds.as_slice(), most, classes))
+    lists
+        .iter()
+        .all(|kinds| kinds_fit(kinds.as_slice(), most, classes))
 }
 
 /// The same of one list.

@@ -1,5 +1,4 @@
-use Rattle.std.proofs.Common.{◌≡◌, ◌≤◌, ◌↔◌, IsTrue, length, refl}
-use Rattle.st_events.specs.declared.shapes.TheConstants.{MOST_CLASSES, MOST_CHECKS}
+use Rattle.std.proofs.Common.{refl}
 use Rattle.st_events.proofs.ShapeLemmas.{within_limits, arguments_within}
 use Rattle.st_events.proofs.shapes.lists_within_limits.Goals as goal
 
