@@ -11,7 +11,7 @@ use Rattle.st_parse.specs.declared.programs.SmallStmt.{SmallStmt}
 use Rattle.st_parse.specs.declared.programs.SmallStmt.TheVariants.{Make, Put, Check}
 use Rattle.st_parse.specs.Small.{SmallLists}
 use Rattle.st_small.specs.Program.{AreInOrder, checks_of}
-use Rattle.st_small.specs.Code.{Locals, Turn, block_course, turn_of, next_turn, value_of, FollowsAfter}
+use Rattle.st_small.specs.Code.{Locals, Turn, block_course, turn_of, next_request, value_of, FollowsAfter}
 use Rattle.st_small.specs.Running.{Progress, after, classes_of, events_from}
 use Rattle.st_small.proofs.LegalLemmas.{slice_get-seam}
 
@@ -19,15 +19,15 @@ use Rattle.st_small.proofs.LegalLemmas.{slice_get-seam}
 pub record IsAt (program : SmallLists) (sizes : Sizes) (replies : List ℕ) (at : Progress) (left : List SmallStmt) : Type 0 where
   pub site : ℕ
   pub locals : Locals
-  pub turns : (more : List ℕ) → next_turn program sizes 0 (replies ++ more) ≡ turn_of (block_course site left locals more)
+  pub turns : (more : List ℕ) → next_request program sizes 0 (replies ++ more) ≡ turn_of (block_course site left locals more)
   pub site_is : site ≡ at.launched
   pub values : (k : ℕ) → k < at.made → value_of locals k ≡ 2 + k
   pub made : length locals.values ≡ at.made
   pub charge : 2 * length left ≤ locals.charge
 
 now : (program : SmallLists) (sizes : Sizes) (replies : List ℕ) (at : Progress) (left : List SmallStmt) → (p : IsAt program sizes replies at left) →
-    next_turn program sizes 0 replies ≡ turn_of (block_course p.site left p.locals [])
-now program sizes replies at left p = ap (next_turn program sizes 0) (sym (append-nil replies)) ∙ p.turns []
+    next_request program sizes 0 replies ≡ turn_of (block_course p.site left p.locals [])
+now program sizes replies at left p = ap (next_request program sizes 0) (sym (append-nil replies)) ∙ p.turns []
 
 slice_get-front : {X : Type 0} (xs ys : List X) (k : ℕ) → k < length xs → slice_get (xs ++ ys) k ≡ slice_get xs k
 slice_get-front [] ys k h = absurd (omega arith)
@@ -39,10 +39,10 @@ value-of-more : (values : List ℕ) (made : ℕ) → length values ≡ made → 
     unwrap_or (slice_get (values ++ (2 + made) ∷ []) k) 0 ≡ 2 + k
 value-of-more values made e h k lt =
     elim (eqb_tells k made) [
-      inl same ↦
-        let at_end : slice_get (values ++ (2 + made) ∷ []) (length values) ≡ Some (2 + made) = slice_get-seam values (2 + made) [] in
-        rw (same.1 ∙ sym e, at_end) (ap (λ n. 2 + n) (sym e))
-    | inr other ↦ rw (slice_get-front values ((2 + made) ∷ []) k (omega (arith, other.1, lt, e))) (h k (omega (arith, other.1, lt)))
+      | inl same ↦
+          let at_end : slice_get (values ++ (2 + made) ∷ []) (length values) ≡ Some (2 + made) = slice_get-seam values (2 + made) [] in
+          rw (same.1 ∙ sym e, at_end) (ap (λ n. 2 + n) (sym e))
+      | inr other ↦ rw (slice_get-front values ((2 + made) ∷ []) k (omega (arith, other.1, lt, e))) (h k (omega (arith, other.1, lt)))
     ]
 
 at-make : (program : SmallLists) (sizes : Sizes) (replies : List ℕ) (at : Progress) (left : List SmallStmt) → IsAt program sizes replies at (Make ∷ left) →
@@ -91,14 +91,17 @@ pub follows-from : (program : SmallLists) (sizes : Sizes) (replies : List ℕ) (
     FollowsAfter program sizes 0 replies (own_events 0 (events_from (classes_of program.fields) at left)) Finished
 follows-from program sizes replies at [] order p = now program sizes replies at [] p
 follows-from program sizes replies at (Make ∷ left) order p =
-    let enough : nat_lt p.locals.charge 1 ≡ false = le-ltb p.locals.charge 1 (omega (arith, p.charge)) in
-    (now program sizes replies at (Make ∷ left) p ∙ rw enough refl,
-     follows-from program sizes (replies ++ (2 + at.made) ∷ []) (after (classes_of program.fields) at Make) left order (at-make program sizes replies at left p))
+    let enough : nat_lt p.locals.charge 1 ≡ false = le-ltb p.locals.charge 1 (omega (arith, p.charge)) in (
+      now program sizes replies at (Make ∷ left) p ∙ rw enough refl,
+      follows-from program sizes (replies ++ (2 + at.made) ∷ []) (after (classes_of program.fields) at Make) left order (at-make program sizes replies at left p),
+    )
 follows-from program sizes replies at (Put local field value ∷ left) order p =
-    let enough : nat_lt p.locals.charge 1 ≡ false = le-ltb p.locals.charge 1 (omega (arith, p.charge)) in
-    (now program sizes replies at (Put local field value ∷ left) p ∙ rw (enough, p.values local order.0) refl,
-     follows-from program sizes (replies ++ 0 ∷ []) (after (classes_of program.fields) at (Put local field value)) left order.2 (at-put program sizes replies at local field value left p))
+    let enough : nat_lt p.locals.charge 1 ≡ false = le-ltb p.locals.charge 1 (omega (arith, p.charge)) in (
+      now program sizes replies at (Put local field value ∷ left) p ∙ rw (enough, p.values local order.0) refl,
+      follows-from program sizes (replies ++ 0 ∷ []) (after (classes_of program.fields) at (Put local field value)) left order.2 (at-put program sizes replies at local field value left p),
+    )
 follows-from program sizes replies at (Check local field value place ∷ left) order p =
-    let enough : nat_lt p.locals.charge 2 ≡ false = le-ltb p.locals.charge 2 (omega (arith, p.charge)) in
-    (now program sizes replies at (Check local field value place ∷ left) p ∙ rw (enough, p.values local order.0, p.site_is) refl,
-     follows-from program sizes (replies ++ 0 ∷ []) (after (classes_of program.fields) at (Check local field value place)) left order.2 (at-check program sizes replies at local field value place left p))
+    let enough : nat_lt p.locals.charge 2 ≡ false = le-ltb p.locals.charge 2 (omega (arith, p.charge)) in (
+      now program sizes replies at (Check local field value place ∷ left) p ∙ rw (enough, p.values local order.0, p.site_is) refl,
+      follows-from program sizes (replies ++ 0 ∷ []) (after (classes_of program.fields) at (Check local field value place)) left order.2 (at-check program sizes replies at local field value place left p),
+    )

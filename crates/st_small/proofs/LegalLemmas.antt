@@ -19,9 +19,9 @@ use Rattle.st_parse.specs.declared.programs.SmallStmt.TheVariants.{Make, Put, Ch
 use Rattle.st_parse.specs.Small.{SmallLists}
 use Rattle.st_small.specs.Program.{Comparison, checks_of, shape_of}
 use Rattle.st_small.specs.Code.{one_argument}
-use Rattle.st_small.specs.Running.{classes_of, events_from}
+use Rattle.st_small.specs.Running.{HaveRoom, classes_of, events_from}
 use Rattle.st_small.proofs.LocalLemmas.{IsNode, word-of-node}
-use Rattle.st_small.proofs.WorldLemmas.{HaveRoom, IsReady, progress_in, ready-next, world_next}
+use Rattle.st_small.proofs.WorldLemmas.{IsReady, progress_in, ready-next, world_next}
 
 node-exists : (fields : List Kind) (o : Option Object) → IsNode fields o → is_some o ≡ true
 node-exists fields None node = absurd node
@@ -90,10 +90,14 @@ pub legal-from : (program : SmallLists) (sizes : Sizes) (w : World) (left : List
 legal-from program sizes w [] room r = tt
 legal-from program sizes w (Make ∷ left) room r =
     (legal-new program sizes w left room r, legal-from program sizes (world_next (shape_of program) sizes w Make) left room (ready-next program sizes w Make left r))
-legal-from program sizes w (Put local field value ∷ left) room r =
-    (legal-store program sizes w local field value left room r,
-     legal-from program sizes (world_next (shape_of program) sizes w (Put local field value)) left room (ready-next program sizes w (Put local field value) left r))
-legal-from program sizes w (Check local field value place ∷ left) room r =
-    (legal-launch program sizes w local field value place left room r,
-     (legal-retire program sizes (next (shape_of program) sizes w (Launch 0 (w.epoch + 1) w.epoch (one_argument (2 + local)))) (w.epoch + 1) (eq-eqb _ _ refl) (ap (λ ns. ns ++ (w.epoch + 1) ∷ []) r.active),
-     legal-from program sizes (world_next (shape_of program) sizes w (Check local field value place)) left room (ready-next program sizes w (Check local field value place) left r)))
+legal-from program sizes w (Put local field value ∷ left) room r = (
+  legal-store program sizes w local field value left room r,
+  legal-from program sizes (world_next (shape_of program) sizes w (Put local field value)) left room (ready-next program sizes w (Put local field value) left r),
+)
+legal-from program sizes w (Check local field value place ∷ left) room r = (
+  legal-launch program sizes w local field value place left room r,
+  (
+    legal-retire program sizes (next (shape_of program) sizes w (Launch 0 (w.epoch + 1) w.epoch (one_argument (2 + local)))) (w.epoch + 1) (eq-eqb _ _ refl) (ap (λ ns. ns ++ (w.epoch + 1) ∷ []) r.active),
+    legal-from program sizes (world_next (shape_of program) sizes w (Check local field value place)) left room (ready-next program sizes w (Check local field value place) left r),
+  ),
+)

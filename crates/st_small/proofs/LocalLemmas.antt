@@ -42,8 +42,8 @@ have-objects-put fields heap made obj field value h k lt =
 have-objects-make : (fields : List Kind) (heap : Heap) (made : ℕ) → HaveObjects fields heap made → HaveObjects fields (with_object heap (2 + made) (fresh (classes_of fields) 1)) (made + 1)
 have-objects-make fields heap made h k lt =
     elim (eqb_tells (2 + k) (2 + made)) [
-      inl e ↦ node-cond fields ((2 + k) == (2 + made)) _ _ (λ _. (refl, length-map fields (λ _. 0))) (λ no. absurd (cc))
-    | inr e ↦ node-cond fields ((2 + k) == (2 + made)) _ _ (λ yes. absurd (cc)) (λ _. h k (omega (arith, e.1)))
+      | inl e ↦ node-cond fields ((2 + k) == (2 + made)) _ _ (λ _. (refl, length-map fields (λ _. 0))) (λ no. absurd (cc))
+      | inr e ↦ node-cond fields ((2 + k) == (2 + made)) _ _ (λ yes. absurd (cc)) (λ _. h k (omega (arith, e.1)))
     ]
 
 -- a statement that is in order keeps that
@@ -59,8 +59,9 @@ pub can-do-all : (fields : List Kind) (room : ℕ) (at : Progress) (statements :
 can-do-all fields room at [] objects order h = tt
 can-do-all fields room at (Make ∷ rest) objects order h =
     (omega arith, can-do-all fields room (after (classes_of fields) at Make) rest (have-objects-after fields at Make objects) order (omega arith))
-can-do-all fields room at (Put local field value ∷ rest) objects order h =
-    (word-of-node fields (at.heap (2 + local)) field (objects local order.0) (slice_get_within fields field Int order.1),
-     can-do-all fields room (after (classes_of fields) at (Put local field value)) rest (have-objects-after fields at (Put local field value) objects) order.2 (omega arith))
+can-do-all fields room at (Put local field value ∷ rest) objects order h = (
+  word-of-node fields (at.heap (2 + local)) field (objects local order.0) (slice_get_within fields field Int order.1),
+  can-do-all fields room (after (classes_of fields) at (Put local field value)) rest (have-objects-after fields at (Put local field value) objects) order.2 (omega arith),
+)
 can-do-all fields room at (Check local field value place ∷ rest) objects order h =
     (tt, can-do-all fields room (after (classes_of fields) at (Check local field value place)) rest objects order.2 (omega arith))

@@ -55,7 +55,7 @@ next-verdict : (program : SmallLists) (sizes : Sizes) (w : World) (local field v
 next-verdict program sizes w local field value place left r =
     let launched : Launched = record { past = w.heap; thread = 0; site = w.epoch; args = one_argument (2 + local) } in
     let is : (world_in_the_end program sizes w (Check local field value place ∷ left)).launched (w.epoch + 1) ≡ Some launched =
-      kept program sizes (world_next (shape_of program) sizes w (Check local field value place)) left (w.epoch + 1) (omega arith) ∙ rw (eq-eqb (w.epoch + 1) (w.epoch + 1) refl) refl in
+    kept program sizes (world_next (shape_of program) sizes w (Check local field value place)) left (w.epoch + 1) (omega arith) ∙ rw (eq-eqb (w.epoch + 1) (w.epoch + 1) refl) refl in
     rw is (ap (λ e. Value (value_on w.heap (one_argument (2 + local)) e)) (sym (next-check program sizes w local field value place left r)))
 
 pub right-from : (program : SmallLists) (sizes : Sizes) (w : World) (left : List SmallStmt) → IsReady program sizes w left → (n : ℕ) (verdict : Verdict) →
@@ -67,11 +67,11 @@ right-from program sizes w (Put local field value ∷ left) r n verdict e =
     right-from program sizes (world_next (shape_of program) sizes w (Put local field value)) left (ready-next program sizes w (Put local field value) left r) n verdict e
 right-from program sizes w (Check local field value place ∷ left) r zero verdict e =
     subst (IsValueAtLaunch program ((world_in_the_end program sizes w (Check local field value place ∷ left)).launched (w.epoch + 1))) (ap (λ o. unwrap_or o verdict) e)
-      (next-verdict program sizes w local field value place left r)
+    (next-verdict program sizes w local field value place left r)
 right-from program sizes w (Check local field value place ∷ left) r (suc n) verdict e =
     let number : w.epoch + 1 + (n + 1) ≡ w.epoch + (suc n + 1) = omega arith in
     subst (λ k. IsValueAtLaunch program ((world_in_the_end program sizes w (Check local field value place ∷ left)).launched k) verdict) number
-      (right-from program sizes (world_next (shape_of program) sizes w (Check local field value place)) left (ready-next program sizes w (Check local field value place) left r) n verdict e)
+    (right-from program sizes (world_next (shape_of program) sizes w (Check local field value place)) left (ready-next program sizes w (Check local field value place) left r) n verdict e)
 
 pub all-plain : (shape : ShapeLists) (at : Progress) (left : List SmallStmt) → AllByRecursion IsPlain (verdicts_from shape at left)
 all-plain shape at [] = tt

@@ -10,7 +10,7 @@ use Rattle.st_parse.specs.declared.programs.SmallStmt.{SmallStmt}
 use Rattle.st_parse.specs.declared.programs.SmallStmt.TheVariants.{Make, Put, Check}
 use Rattle.st_parse.specs.Small.{SmallLists}
 use Rattle.st_small.specs.Program.{Comparison, AreInOrder, checks_of, shape_of}
-use Rattle.st_small.specs.Running.{Progress, after, classes_of, events_of, events_from}
+use Rattle.st_small.specs.Running.{HaveRoom, Progress, after, classes_of, events_of, events_from}
 use Rattle.st_small.proofs.LocalLemmas.{HaveObjects, have-objects-after}
 
 -- where a run stands, by what its journal says
@@ -20,13 +20,6 @@ progress_in w = record { heap = w.heap; made = w.made 0; launched = w.epoch }
 -- what a statement's events make of the world
 abbrev pub world_next : ShapeLists → Sizes → World → SmallStmt → World
 world_next shape sizes w statement = world_from shape sizes w (events_of (progress_in w) statement)
-
--- the sizes have room for the program
-pub record HaveRoom (program : SmallLists) (sizes : Sizes) : Type 0 where
-  pub mutators : 1 ≤ sizes.mutators
-  pub lanes : 1 ≤ sizes.lanes
-  pub objects : length program.body ≤ sizes.objects
-  pub charge : 2 * length program.body ≤ sizes.events
 
 -- these statements of the program are left, and everything that they name stands
 pub record IsReady (program : SmallLists) (sizes : Sizes) (w : World) (left : List SmallStmt) : Type 0 where
@@ -44,23 +37,29 @@ retired n active e = rw (e, eq-eqb n n refl) refl
 pub ready-next : (program : SmallLists) (sizes : Sizes) (w : World) (statement : SmallStmt) (left : List SmallStmt) →
     IsReady program sizes w (statement ∷ left) → IsReady program sizes (world_next (shape_of program) sizes w statement) left
 ready-next program sizes w Make left r = record {
-    done = r.done; checks = r.checks; epoch = r.epoch; active = r.active;
-    objects = have-objects-after program.fields (progress_in w) Make r.objects;
-    in_order = r.in_order;
-    room = omega (arith, r.room);
-  }
+  done = r.done;
+  checks = r.checks;
+  epoch = r.epoch;
+  active = r.active;
+  objects = have-objects-after program.fields (progress_in w) Make r.objects;
+  in_order = r.in_order;
+  room = omega (arith, r.room);
+}
 ready-next program sizes w (Put local field value) left r = record {
-    done = r.done; checks = r.checks; epoch = r.epoch; active = r.active;
-    objects = have-objects-after program.fields (progress_in w) (Put local field value) r.objects;
-    in_order = r.in_order.2;
-    room = omega (arith, r.room);
-  }
+  done = r.done;
+  checks = r.checks;
+  epoch = r.epoch;
+  active = r.active;
+  objects = have-objects-after program.fields (progress_in w) (Put local field value) r.objects;
+  in_order = r.in_order.2;
+  room = omega (arith, r.room);
+}
 ready-next program sizes w (Check local field value place) left r = record {
-    done = r.done ++ record { field = field; value = value } ∷ [];
-    checks = r.checks ∙ sym (append_assoc r.done (record { field = field; value = value } ∷ []) (checks_of left));
-    epoch = omega (arith, r.epoch, length-append r.done (record { field = field; value = value } ∷ []));
-    active = retired (w.epoch + 1) w.active r.active;
-    objects = r.objects;
-    in_order = r.in_order.2;
-    room = omega (arith, r.room);
-  }
+  done = r.done ++ record { field = field; value = value } ∷ [];
+  checks = r.checks ∙ sym (append_assoc r.done (record { field = field; value = value } ∷ []) (checks_of left));
+  epoch = omega (arith, r.epoch, length-append r.done (record { field = field; value = value } ∷ []));
+  active = retired (w.epoch + 1) w.active r.active;
+  objects = r.objects;
+  in_order = r.in_order.2;
+  room = omega (arith, r.room);
+}

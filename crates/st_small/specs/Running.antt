@@ -1,5 +1,5 @@
 -- The run of a small program as a function of its statements: the working definition that the code meets step by step.
-use Rattle.std.specs.Prelude.{◌≡◌, ℕ, ◌+◌, ◌<◌, List, [], ◌∷◌, ◌++◌, IsSome, slice_get}
+use Rattle.std.specs.Prelude.{◌≡◌, ℕ, ◌+◌, ◌*◌, ◌<◌, ◌≤◌, List, [], ◌∷◌, ◌++◌, length, IsSome}
 use Rattle.st_events.specs.declared.events.Event.{Event}
 use Rattle.st_events.specs.declared.events.Event.TheVariants.{New, Store, Launch, Retire}
 use Rattle.st_events.specs.declared.verdicts.Verdict.{Verdict}
@@ -13,8 +13,8 @@ use Rattle.st_events.specs.Ran.{RanLists}
 use Rattle.st_parse.specs.Small.{SmallLists}
 use Rattle.st_parse.specs.declared.programs.SmallStmt.{SmallStmt}
 use Rattle.st_parse.specs.declared.programs.SmallStmt.TheVariants.{Make, Put, Check}
-use Rattle.st_small.specs.declared.limits.TheConstants.{NODE_CLASS, ONLY_THREAD, FIRST_OBJECT}
-use Rattle.st_small.specs.Program.{Comparison, plain_of, comparison_holds}
+use Rattle.st_small.specs.declared.limits.TheConstants.{NODE_CLASS, ONLY_THREAD, FIRST_OBJECT, LAUNCH_COST}
+use Rattle.st_small.specs.Program.{plain_of, comparison_holds}
 use Rattle.st_small.specs.Code.{one_argument}
 
 -- where a run stands: the heap, how many locals are made, and how many checks are launched
@@ -90,3 +90,10 @@ all_verdicts_of program = verdicts_from (classes_of program.fields) (start_of (c
 -- what the whole run leaves
 abbrev pub run_of : SmallLists → Sizes → RanLists
 run_of program sizes = record { journal = journal_of program; verdicts = all_verdicts_of program; ends = Finished ∷ []; free = sizes.copies }
+
+-- the sizes are for one thread, and neither its objects nor its charge run out
+pub record HaveRoom (program : SmallLists) (sizes : Sizes) : Type 0 where
+  pub mutators : sizes.mutators ≡ 1
+  pub lanes : 1 ≤ sizes.lanes
+  pub objects : length program.body ≤ sizes.objects
+  pub charge : LAUNCH_COST * length program.body ≤ sizes.events

@@ -3,9 +3,9 @@ ghost use Rattle.std.specs.Prelude.{◌≡◌, ◌+◌, ◌*◌, ◌≤◌, [], 
 ghost use Rattle.st_events.specs.Heap.{first_heap, heap_of};
 ghost use Rattle.st_events.specs.Shape.{IsWithinLimits};
 ghost use Rattle.st_events.specs.Sizes.{usual_sizes, AreWithinLimits};
-ghost use Rattle.st_small.specs.Program.{IsWellFormed, shape_of};
+ghost use Rattle.st_small.specs.Program.{IsWellFormed};
 ghost use Rattle.st_small.specs.Right.{IsRightRun, IsTruth};
-ghost use Rattle.st_small.specs.Running.{CanDoAll, events_from, verdicts_from, start_of, classes_of};
+ghost use Rattle.st_small.specs.Running.{CanDoAll, HaveRoom, events_from, verdicts_from, start_of, classes_of, run_of};
 ghost use Rattle.st_small.specs.Machine.{progress_of, HasDoneAtMost};
 
 use crate::limits::{FIRST_OBJECT, MOST_EVENTS_OF_STATEMENT, MOST_STATEMENTS};
@@ -14,18 +14,29 @@ use st_events::{End, HeapMap, Journal, Kind, NoMemory, Ran, Shape, Sizes};
 use st_parse::{Small, SmallStmt};
 use std::alloc::Global;
 
-/// Runs the program with the usual sizes, to its end.
+/// Runs the program with the usual sizes, to its end. What it leaves is right: one legal history, whole, with the plain
+/// value of each check on the heap as it stood at its launch.
 pub fn run_small(alloc: Global, small: &Small) -> Result<Ran, NoMemory>
     requires { IsWellFormed small.now }
     ensures right { IfOk result (λ ran. IsRightRun small.now (usual_sizes 1) ran) }
-    // It is finished, and each check holds or fails.
+    // The thread is finished, and each check holds or fails.
     ensures finished { IfOk result (λ ran. ran.ends ≡ End.Finished ∷ []) }
     ensures truths { IfOk result (λ ran. All IsTruth ran.verdicts) }
 {
     let sizes = Sizes::usual(1);
-    let mut machine = start(alloc, small, &sizes)?;
+    run_with(alloc, small, &sizes)
+}
+
+/// The same with sizes that have room for the program.
+fn run_with(alloc: Global, small: &Small, sizes: &Sizes) -> Result<Ran, NoMemory>
+    requires small { IsWellFormed small.now }
+    requires fit { AreWithinLimits sizes.now }
+    requires room { HaveRoom small.now sizes.now }
+    ensures { IfOk result (λ ran. ran ≡ run_of small.now sizes.now) }
+{
+    let mut machine = start(alloc, small, sizes)?;
     run_body(&mut machine, small.body.as_slice())?;
-    finish(alloc, machine, &sizes)
+    finish(alloc, machine, sizes)
 }
 
 /// The machine before the first statement, with room for the events of all of them.
@@ -87,44 +98,4 @@ fn finish(alloc: Global, machine: Machine, sizes: &Sizes) -> Result<Ran, NoMemor
         ends: vec![in alloc; End::Finished]?,
         free: sizes.copies,
     })
-}
-
-#[cfg(test)]
-mod tests {
-    use super::*;
-    use st_events::{Args, Event, Plain, Site, Verdict};
-
-    /// `var n: Node = new Node; check n.val == VALUE; n.val = 1;` in a thread `t`.
-    fn two(alloc: Global, value: u64) -> Result<Small, NoMemory> {
-        Ok(Small {
-            thread: vec![in alloc; b't']?,
-            fields: vec![in alloc; Kind::Int, Kind::Ref(1)]?,
-            body: vec![in alloc;
-                SmallStmt::Make,
-                SmallStmt::Check {
-                    local: 0,
-                    field: 0,
-                    value,
-                    site: Site { line: 4, column: 3 }
-                },
-                SmallStmt::Put {
-                    local: 0,
-                    field: 0,
-                    value: 1
-                },
-            ]?,
-        })
-    }
-
-    #[test]
-    fn a_check_is_of_the_heap_at_its_launch(rt: HostRuntime) {
-        for (value, verdict) in [(0, Plain::Holds), (1, Plain::Fails)] {
-            let small = two(rt.alloc(), value).unwrap();
-            let ran = run_small(rt.alloc(), &small).unwrap();
-            assert_eq!(rt;
-                ran.verdicts.as_slice(),
-                [Verdict::Plain(verdict)].as_slice()
-            );
-        }
-    }
 }
