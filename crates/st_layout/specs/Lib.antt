@@ -1,0 +1,4 @@
+pub mod Layout
+pub mod Limits
+pub mod Names
+pub mod Packed
