@@ -57,9 +57,9 @@ value_of locals k = unwrap_or (slice_get locals.values k) 0
 abbrev pub one_argument : ℕ → Args
 one_argument value = record { count = 1; words = value ∷ 0 ∷ 0 ∷ 0 ∷ [] }
 
--- One statement; `site` is the number of check statements before it in the source. No `new` finds the region full, since
--- a program has at most 32 locals and a region, with the usual sizes, 4,096 objects; and no local is null, since it is
--- made before it is used. So neither end is told here
+-- One statement; `site` is the number of check statements before it in the source. No `new` finds the thread's region
+-- full, since a program has fewer statements than a region of the usual sizes has objects; and no local is null, since it
+-- is made before it is used. So the ends of these two faults, whose places a small program does not record, are not told
 abbrev pub statement_course : ℕ → SmallStmt → Locals → List ℕ → Course
 statement_course site Make locals replies =
     paying EVENT_COST locals (λ paid. asking (make NODE_CLASS) replies (λ reply rest. through (record paid { values = paid.values ++ reply ∷ [] }) rest))

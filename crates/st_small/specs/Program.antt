@@ -12,9 +12,9 @@ use Rattle.st_events.specs.Heap.{Heap, word_at}
 use Rattle.st_events.specs.Legal.{is_word}
 use Rattle.st_parse.specs.declared.programs.SmallStmt.{SmallStmt}
 use Rattle.st_parse.specs.declared.programs.SmallStmt.TheVariants.{Make, Put, Check}
+use Rattle.st_parse.specs.declared.limits.TheConstants.{MOST_STATEMENTS}
 use Rattle.st_parse.specs.Small.{SmallLists}
 use Rattle.st_small.specs.declared.limits.TheConstants.{NODE_CLASS, CLASSES}
-use Rattle.st_parse.specs.declared.limits.TheConstants.{MOST_STATEMENTS}
 
 -- the expression of a check statement: a field of its one argument is compared with a number
 pub record Comparison : Type 0 where
@@ -45,8 +45,8 @@ plain_of holds = cond holds Holds Fails
 abbrev pub comparison_holds : Heap → ℕ → Comparison → Bool
 comparison_holds heap obj expression = is_word (word_at heap obj expression.field) expression.value
 
--- the value of an expression on a heap. The argument is never null, since a local is made by `new` before it is used, so
--- the faults of a null are not told here
+-- the value of an expression on a heap. The argument is never null, since a local is made before it is used, so the fault
+-- of a null is not told. A number that no statement has is no check: its value means nothing
 abbrev pub value_on : Heap → Args → Option Comparison → Plain
 value_on heap args None = Fails
 value_on heap args (Some expression) = plain_of (comparison_holds heap (argument_of args) expression)
@@ -55,14 +55,15 @@ value_on heap args (Some expression) = plain_of (comparison_holds heap (argument
 abbrev pub plain_value : SmallLists → Heap → ℕ → Args → Plain
 plain_value program heap site args = value_on heap args (slice_get (checks_of program.body) site)
 
--- each local is made before it is used, and each field that is used is a number of the class. So many locals are made already
+-- where so many locals are made already, each statement names a local that is made before it and a field of the class that
+-- is a number
 abbrev pub AreInOrder : List Kind → ℕ → List SmallStmt → Type 0
 AreInOrder fields made [] = Unit {0}
 AreInOrder fields made (Make ∷ rest) = AreInOrder fields (made + 1) rest
 AreInOrder fields made (Put local field value ∷ rest) = (local < made) × (slice_get fields field ≡ Some Int) × AreInOrder fields made rest
 AreInOrder fields made (Check local field value place ∷ rest) = (local < made) × (slice_get fields field ≡ Some Int) × AreInOrder fields made rest
 
--- what is asked of a small program so that it can run
+-- what is asked of a small program so that it can run; the program of every accepted source is so
 pub record IsWellFormed (program : SmallLists) : Type 0 where
   pub fields : AreKindsWithin MOST_FIELDS CLASSES program.fields
   pub statements : length program.body ≤ MOST_STATEMENTS

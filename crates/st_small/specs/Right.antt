@@ -36,7 +36,7 @@ IsTruth verdict = ⊥
 
 -- what a run leaves is right: the journal is legal; each thread has one end, and its own events follow its code to that
 -- end; each launched check has one verdict, which is right; no check is active at the end, and every copy is free; and a
--- pool with a copy of each object for each lane loses no version
+-- pool with a copy of each object and one more, for each lane, loses no version
 pub record IsRightRun (program : SmallLists) (sizes : Sizes) (ran : RanLists) : Type 0 where
   pub legal : IsLegal (shape_of program) sizes ran.journal
   pub one_end_each : length ran.ends ≡ length (threads_of program)
