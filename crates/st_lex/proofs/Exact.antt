@@ -1,8 +1,8 @@
 -- What is read of a text is what the definition of its tokens says, and nothing else is.
-use Rattle.std.proofs.Common.{◌≡◌, ℕ, zero, suc, ◌+◌, ◌-◌, ◌<◌, ◌≤◌, Bool, true, false, List, [], ◌∷◌, ◌⊎◌, inl, inr, length, take, drop, refl, ap, sym, ◌∙◌, subst, arith, cond}
+use Rattle.std.proofs.Common.{◌≡◌, ℕ, zero, suc, ◌+◌, ◌-◌, ◌<◌, ◌≤◌, true, false, List, [], ◌∷◌, ◌⊎◌, inl, inr, length, take, drop, refl, ap, sym, ◌∙◌, subst, arith}
 use Rattle.std.specs.Prelude.{Result, Ok, Err, Option, Some, None, slice_index, slice_range}
 use Rattle.std.specs.List.{AllByRecursion}
-use Rattle.std.proofs.lemmas.Bool.{true≢false, false≢true, cases_lt, cases_order}
+use Rattle.std.proofs.lemmas.Bool.{true≢false, cases_lt, cases_order}
 use Rattle.std.proofs.lemmas.List.{length-drop, drop_more}
 use Rattle.st_events.specs.declared.events.Site.{Site}
 use Rattle.st_lex.specs.declared.kinds.Token.{Token}
@@ -12,12 +12,11 @@ use Rattle.st_lex.specs.declared.faults.Fault.TheVariants as fault
 use Rattle.st_lex.specs.declared.limits.TheConstants.{LARGEST_NUMBER}
 use Rattle.st_lex.specs.declared.pieces.Piece.{Piece}
 use Rattle.st_lex.specs.declared.pieces.Piece.TheVariants as piece
-use Rattle.st_lex.specs.Bytes.{is_newline, is_blank, opens_comment}
+use Rattle.st_lex.specs.Bytes.{is_newline, is_blank}
 use Rattle.st_lex.specs.Sites.{site_of}
 use Rattle.st_lex.specs.Spellings.{is_number, is_spelling, decimal, HasForm}
-use Rattle.st_lex.specs.Tokens.{text_of, IsGap, IsLongest, IsToken, AreApart, Spells, IsTokensOf, IsBadByte, IsLongNumber, HasFault, IsFaultOf}
+use Rattle.st_lex.specs.Tokens.{IsLongest, IsToken, AreApart, IsTokensOf, IsBadByte, IsLongNumber, HasFault, IsFaultOf}
 use Rattle.st_lex.specs.Reading.{Stop, front_piece, token_at, with_first, reads_on, read_tokens}
-use Rattle.st_lex.proofs.Runs.{no}
 use Rattle.st_lex.proofs.PieceLemmas.{NoLonger, Stands, GapForm, TokenForm, LongForm, WrongForm, Solid, Means, newline_blank}
 use Rattle.st_lex.proofs.FormLemmas.{one_kind, spelled, number_spelled, no_long_token, spelled_no_blank}
 use Rattle.st_lex.proofs.GapLemmas.{first_at, gap_none, gap_ends, gap_onto, gap_off}

@@ -1,5 +1,5 @@
 -- Blanks and comments before a place: gaps grow and shrink by the piece at their front.
-use Rattle.std.proofs.Common.{◌≡◌, ℕ, zero, suc, ◌+◌, ◌-◌, ◌<◌, ◌≤◌, Bool, true, false, not, ◌&&◌, ◌⊎◌, inl, inr, List, [], ◌∷◌, length, take, drop, get_or, refl, ap, sym, ◌∙◌, subst, arith, IsTrue, IsFalse}
+use Rattle.std.proofs.Common.{◌≡◌, ℕ, ◌+◌, ◌-◌, ◌<◌, ◌≤◌, true, false, not, ◌⊎◌, inl, inr, List, [], ◌∷◌, length, drop, get_or, refl, ap, ◌∙◌, subst, arith, IsTrue}
 use Rattle.std.specs.Prelude.{slice_index}
 use Rattle.std.specs.List.{prefix_len}
 use Rattle.std.proofs.lemmas.Bool.{true≢false, false≢true, not-true, and_parts, eqb-true, cases_lt}
@@ -7,7 +7,7 @@ use Rattle.std.proofs.lemmas.List.{get_or-drop, length-drop}
 use Rattle.std.proofs.lemmas.List.Sums.{prefix_len_passes, prefix_len_stops}
 use Rattle.st_lex.specs.Bytes.{is_newline, is_blank, is_comment_byte, opens_comment}
 use Rattle.st_lex.specs.Tokens.{InComment, IsGap}
-use Rattle.st_lex.proofs.PieceLemmas.{Stands, GapForm, Solid}
+use Rattle.st_lex.proofs.PieceLemmas.{GapForm, Solid}
 
 -- a byte of the rest of a text
 pub byte_at : (text : List ℕ) (place k : ℕ) → place ≤ k → slice_index (drop place text) (k - place) ≡ slice_index text k

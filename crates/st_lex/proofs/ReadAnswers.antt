@@ -1,5 +1,5 @@
 -- What the call answers, in the words of the definition of tokens.
-use Rattle.std.proofs.Common.{◌≡◌, ℕ, List, refl, sym, ◌∙◌, ap, subst}
+use Rattle.std.proofs.Common.{ℕ, List, subst}
 use Rattle.std.specs.Prelude.{Result, Ok, Err, IfOk, IsErrOf}
 use Rattle.st_events.specs.declared.events.Site.{Site}
 use Rattle.st_lex.specs.declared.kinds.Token.{Token}

@@ -1,10 +1,8 @@
 -- Reading a text, a piece at a time.
-use Rattle.std.proofs.Common.{◌≡◌, ℕ, zero, suc, ◌+◌, ◌-◌, ◌<◌, ◌≤◌, Bool, true, false, List, [], ◌∷◌, ◌++◌, length, take, drop, get_or, refl, ap, sym, ◌∙◌, subst, arith, append_assoc}
+use Rattle.std.proofs.Common.{◌≡◌, ℕ, zero, suc, ◌+◌, ◌-◌, ◌<◌, ◌≤◌, List, [], ◌∷◌, ◌++◌, length, drop, get_or, refl, ap, sym, ◌∙◌, subst, arith, append_assoc}
 use Rattle.std.specs.Prelude.{Result, Ok, Err}
 use Rattle.std.proofs.lemmas.List.{drop_more, drop_all, drop-drop}
 use Rattle.st_lex.specs.declared.kinds.Token.{Token}
-use Rattle.st_lex.specs.declared.kinds.TokenKind.{TokenKind}
-use Rattle.st_lex.specs.declared.faults.Fault.{Fault}
 use Rattle.st_lex.specs.declared.pieces.Piece.{Piece}
 use Rattle.st_lex.specs.declared.pieces.Piece.TheVariants as piece
 use Rattle.st_lex.specs.Reading.{Stop, front_piece, token_at, with_first, reads_on, read_rest, read_tokens}

@@ -1,5 +1,5 @@
 -- One turn of the lexer: the piece at the cursor, what is read after it, and the site after it.
-use Rattle.std.proofs.Common.{append-nil, ◌++◌, ◌∷◌, ◌≡◌, ℕ, ◌+◌, ◌-◌, ◌<◌, ◌≤◌, Bool, true, false, List, [], length, take, drop, get_or, refl, ap, sym, ◌∙◌, subst, arith}
+use Rattle.std.proofs.Common.{append-nil, ◌++◌, ◌∷◌, ◌≡◌, ℕ, ◌+◌, ◌-◌, ◌<◌, ◌≤◌, true, List, [], length, take, drop, get_or, refl, ap, sym, ◌∙◌, subst, arith}
 use Rattle.std.specs.Prelude.{Result, Ok, Err, slice_index}
 use Rattle.std.proofs.lemmas.List.{length-drop, take_rest}
 use Rattle.st_events.specs.declared.events.Site.{Site}

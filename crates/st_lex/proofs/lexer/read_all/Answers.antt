@@ -1,11 +1,6 @@
 -- Each turn of the loop is a turn of the reading.
-use Rattle.std.proofs.Common.{◌≡◌, ◌≤◌, ℕ, length, ◌+◌, ◌-◌, ◌<◌, ◌++◌, ◌∷◌, [], refl, sym, subst, arith}
-use Rattle.st_lex.specs.Answers.{TellsStop}
-use Rattle.st_lex.specs.Reading.{read_tokens}
-use Rattle.st_lex.specs.declared.kinds.Token.{Token}
-use Rattle.st_lex.specs.declared.cursors.Cursor.{Cursor}
-use Rattle.st_lex.specs.declared.faults.LexError.{LexError}
-use Rattle.st_lex.proofs.TurnLemmas.{IsAt, at_start, at_newline, at_gap, at_found, at_end, at_wrong, gap_fits, found_fits}
+use Rattle.std.proofs.Common.{arith}
+use Rattle.st_lex.proofs.TurnLemmas.{at_start, at_newline, at_gap, at_found, at_end, at_wrong, gap_fits, found_fits}
 use Rattle.st_lex.proofs.lexer.read_all.Goals as goal
 
 pub loop-cursor-init : goal.loop-cursor-init

@@ -1,5 +1,4 @@
 -- What is read is what the definition says.
-use Rattle.std.proofs.Common.{◌≡◌, ℕ, List, refl, sym, ◌∙◌, Result, Ok, Err}
 use Rattle.st_lex.proofs.ReadAnswers.{list_is, bad_byte_is, long_number_is}
 use Rattle.st_lex.proofs.lexer.tokens.Goals as goal
 
