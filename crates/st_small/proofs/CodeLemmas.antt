@@ -10,7 +10,7 @@ use Rattle.st_events.specs.History.{own_events}
 use Rattle.st_parse.specs.declared.programs.SmallStmt.{SmallStmt}
 use Rattle.st_parse.specs.declared.programs.SmallStmt.TheVariants.{Make, Put, Check}
 use Rattle.st_parse.specs.Small.{SmallLists}
-use Rattle.st_small.specs.Program.{AreInOrder}
+use Rattle.st_parse.specs.Sound.{AreSound}
 use Rattle.st_small.specs.Code.{Locals, block_course, turn_of, next_request, value_of, FollowsAfter}
 use Rattle.st_small.specs.Running.{Progress, after, classes_of, events_from}
 use Rattle.st_small.proofs.LegalLemmas.{slice_get-seam}
@@ -87,21 +87,21 @@ at-check program sizes replies at local field value place left p =
       charge = omega (arith, p.charge);
     }
 
-pub follows-from : (program : SmallLists) (sizes : Sizes) (replies : List ℕ) (at : Progress) (left : List SmallStmt) → AreInOrder program.fields at.made left → IsAt program sizes replies at left →
+pub follows-from : (program : SmallLists) (sizes : Sizes) (replies : List ℕ) (at : Progress) (left : List SmallStmt) → AreSound program.fields at.made left → IsAt program sizes replies at left →
     FollowsAfter program sizes 0 replies (own_events 0 (events_from (classes_of program.fields) at left)) Finished
 follows-from program sizes replies at [] order p = now program sizes replies at [] p
 follows-from program sizes replies at (Make ∷ left) order p =
     let enough : nat_lt p.locals.charge 1 ≡ false = le-ltb p.locals.charge 1 (omega (arith, p.charge)) in (
       now program sizes replies at (Make ∷ left) p ∙ rw enough refl,
-      follows-from program sizes (replies ++ (2 + at.made) ∷ []) (after (classes_of program.fields) at Make) left order (at-make program sizes replies at left p),
+      follows-from program sizes (replies ++ (2 + at.made) ∷ []) (after (classes_of program.fields) at Make) left order.1 (at-make program sizes replies at left p),
     )
 follows-from program sizes replies at (Put local field value ∷ left) order p =
     let enough : nat_lt p.locals.charge 1 ≡ false = le-ltb p.locals.charge 1 (omega (arith, p.charge)) in (
-      now program sizes replies at (Put local field value ∷ left) p ∙ rw (enough, p.values local order.0) refl,
-      follows-from program sizes (replies ++ 0 ∷ []) (after (classes_of program.fields) at (Put local field value)) left order.2 (at-put program sizes replies at local field value left p),
+      now program sizes replies at (Put local field value ∷ left) p ∙ rw (enough, p.values local order.0.0) refl,
+      follows-from program sizes (replies ++ 0 ∷ []) (after (classes_of program.fields) at (Put local field value)) left order.1 (at-put program sizes replies at local field value left p),
     )
 follows-from program sizes replies at (Check local field value place ∷ left) order p =
     let enough : nat_lt p.locals.charge 2 ≡ false = le-ltb p.locals.charge 2 (omega (arith, p.charge)) in (
-      now program sizes replies at (Check local field value place ∷ left) p ∙ rw (enough, p.values local order.0, p.site_is) refl,
-      follows-from program sizes (replies ++ 0 ∷ []) (after (classes_of program.fields) at (Check local field value place)) left order.2 (at-check program sizes replies at local field value place left p),
+      now program sizes replies at (Check local field value place ∷ left) p ∙ rw (enough, p.values local order.0.0, p.site_is) refl,
+      follows-from program sizes (replies ++ 0 ∷ []) (after (classes_of program.fields) at (Check local field value place)) left order.1 (at-check program sizes replies at local field value place left p),
     )

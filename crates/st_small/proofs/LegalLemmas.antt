@@ -60,17 +60,17 @@ legal-new program sizes w left room r =
 legal-store : (program : SmallLists) (sizes : Sizes) (w : World) (local field value : ℕ) (left : List SmallStmt) → HaveRoom program sizes → IsReady program sizes w (Put local field value ∷ left) →
     IsLegalNext (shape_of program) sizes w (Store 0 (2 + local) field value)
 legal-store program sizes w local field value left room r =
-    let node : IsNode program.fields (w.heap (2 + local)) = r.objects local r.in_order.0 in
+    let node : IsNode program.fields (w.heap (2 + local)) = r.objects local r.in_order.0.0 in
     let thread : nat_lt 0 sizes.mutators ≡ true = lt-ltb 0 sizes.mutators (omega (arith, room.mutators)) in
     let here : is_some (w.heap (2 + local)) ≡ true = node-exists program.fields (w.heap (2 + local)) node in
-    let word : is_some (word_at w.heap (2 + local) field) ≡ true = word-of-node program.fields (w.heap (2 + local)) field node (slice_get_within program.fields field Int r.in_order.1) in
-    let fits : fits_cell (shape_of program) w.heap (2 + local) field value ≡ true = node-fits program w.heap (w.heap (2 + local)) field value node r.in_order.1 in
+    let word : is_some (word_at w.heap (2 + local) field) ≡ true = word-of-node program.fields (w.heap (2 + local)) field node (slice_get_within program.fields field Int r.in_order.0.1) in
+    let fits : fits_cell (shape_of program) w.heap (2 + local) field value ≡ true = node-fits program w.heap (w.heap (2 + local)) field value node r.in_order.0.1 in
     rw (thread, here, word, fits) refl
 
 legal-launch : (program : SmallLists) (sizes : Sizes) (w : World) (local field value : ℕ) (place : Site) (left : List SmallStmt) → HaveRoom program sizes → IsReady program sizes w (Check local field value place ∷ left) →
     IsLegalNext (shape_of program) sizes w (Launch 0 (w.epoch + 1) w.epoch (one_argument (2 + local)))
 legal-launch program sizes w local field value place left room r =
-    let node : IsNode program.fields (w.heap (2 + local)) = r.objects local r.in_order.0 in
+    let node : IsNode program.fields (w.heap (2 + local)) = r.objects local r.in_order.0.0 in
     let thread : nat_lt 0 sizes.mutators ≡ true = lt-ltb 0 sizes.mutators (omega (arith, room.mutators)) in
     let number : ((w.epoch + 1) == (w.epoch + 1)) ≡ true = eq-eqb _ _ refl in
     let site : nat_lt w.epoch (length (map (λ _. Ref 1 ∷ []) (checks_of program.body))) ≡ true = lt-ltb _ _ (omega (arith, length-map (checks_of program.body) (λ _. Ref 1 ∷ []), slice_get_within (checks_of program.body) w.epoch _ (next-check program sizes w local field value place left r))) in

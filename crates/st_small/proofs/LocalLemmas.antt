@@ -9,7 +9,7 @@ use Rattle.st_events.specs.declared.shapes.Kind.TheVariants.{Int}
 use Rattle.st_events.specs.Heap.{Heap, Object, word_of, with_object, with_word, set_word, fresh}
 use Rattle.st_parse.specs.declared.programs.SmallStmt.{SmallStmt}
 use Rattle.st_parse.specs.declared.programs.SmallStmt.TheVariants.{Make, Put, Check}
-use Rattle.st_small.specs.Program.{AreInOrder}
+use Rattle.st_parse.specs.Sound.{AreSound}
 use Rattle.st_small.specs.Running.{Progress, classes_of, after, CanDoAll}
 
 -- an object of the declared class
@@ -53,14 +53,14 @@ have-objects-after fields at (Put local field value) h = have-objects-put fields
 have-objects-after fields at (Check local field value place) h = h
 
 -- statements in order can be done, where there is room for the objects
-pub can-do-all : (fields : List Kind) (room : ℕ) (at : Progress) (statements : List SmallStmt) → HaveObjects fields at.heap at.made → AreInOrder fields at.made statements →
+pub can-do-all : (fields : List Kind) (room : ℕ) (at : Progress) (statements : List SmallStmt) → HaveObjects fields at.heap at.made → AreSound fields at.made statements →
     2 + at.made + length statements ≤ room → CanDoAll (classes_of fields) room at statements
 can-do-all fields room at [] objects order h = tt
 can-do-all fields room at (Make ∷ rest) objects order h =
-    (omega arith, can-do-all fields room (after (classes_of fields) at Make) rest (have-objects-after fields at Make objects) order (omega arith))
+    (omega arith, can-do-all fields room (after (classes_of fields) at Make) rest (have-objects-after fields at Make objects) order.1 (omega arith))
 can-do-all fields room at (Put local field value ∷ rest) objects order h = (
-  word-of-node fields (at.heap (2 + local)) field (objects local order.0) (slice_get_within fields field Int order.1),
-  can-do-all fields room (after (classes_of fields) at (Put local field value)) rest (have-objects-after fields at (Put local field value) objects) order.2 (omega arith),
+  word-of-node fields (at.heap (2 + local)) field (objects local order.0.0) (slice_get_within fields field Int order.0.1),
+  can-do-all fields room (after (classes_of fields) at (Put local field value)) rest (have-objects-after fields at (Put local field value) objects) order.1 (omega arith),
 )
 can-do-all fields room at (Check local field value place ∷ rest) objects order h =
-    (tt, can-do-all fields room (after (classes_of fields) at (Check local field value place)) rest objects order.2 (omega arith))
+    (tt, can-do-all fields room (after (classes_of fields) at (Check local field value place)) rest objects order.1 (omega arith))

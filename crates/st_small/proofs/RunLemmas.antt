@@ -26,7 +26,7 @@ use Rattle.st_small.proofs.LocalLemmas.{HaveObjects, can-do-all}
 use Rattle.st_small.proofs.WorldLemmas.{IsReady}
 
 pub room-of-usual : (program : SmallLists) → IsWellFormed program → HaveRoom program (usual_sizes 1)
-room-of-usual program w = record { mutators = refl; lanes = omega arith; objects = omega (arith, w.statements); charge = omega (arith, w.statements) }
+room-of-usual program w = record { mutators = refl; lanes = omega arith; objects = omega (arith, w.sound.few_statements); charge = omega (arith, w.sound.few_statements) }
 
 ready-first : (program : SmallLists) (sizes : Sizes) → IsWellFormed program → HaveRoom program sizes → IsReady program sizes (first_world (shape_of program)) program.body
 ready-first program sizes w room = record {
@@ -35,7 +35,7 @@ ready-first program sizes w room = record {
   epoch = refl;
   active = refl;
   objects = λ k lt. absurd (omega (arith, lt));
-  in_order = w.in_order;
+  in_order = w.sound.body;
   room = omega (arith, room.objects);
 }
 
@@ -53,7 +53,7 @@ at-first program sizes room = record {
 follows : (program : SmallLists) (sizes : Sizes) → IsWellFormed program → HaveRoom program sizes →
     Follows program sizes 0 (own_events 0 (journal_of program)) Finished
 unfolding Follows
-follows program sizes w room = follows-from program sizes [] (start_of (classes_of program.fields)) program.body w.in_order (at-first program sizes room)
+follows program sizes w room = follows-from program sizes [] (start_of (classes_of program.fields)) program.body w.sound.body (at-first program sizes room)
 
 -- the only end is that of thread 0
 only-thread : (program : SmallLists) (sizes : Sizes) (journal : List Event) → Follows program sizes 0 (own_events 0 journal) Finished → (thread : ℕ) (end : End) → slice_get (Finished ∷ []) thread ≡ Some end →
@@ -95,7 +95,7 @@ pub can-do-first : (program : SmallLists) (sizes : Sizes) (machine : Machine) (b
     CanDoAll machine.shape (length machine.heap) (progress_of machine) body
 can-do-first program sizes machine body w room is shape at size =
     let first : HaveObjects program.fields (start_of (classes_of program.fields)).heap 0 = λ k lt. absurd (omega (arith, lt)) in
-    rw (shape, at, size, is, room.mutators) (can-do-all program.fields (2 + 1 * sizes.objects) (start_of (classes_of program.fields)) program.body first w.in_order (omega (arith, room.objects)))
+    rw (shape, at, size, is, room.mutators) (can-do-all program.fields (2 + 1 * sizes.objects) (start_of (classes_of program.fields)) program.body first w.sound.body (omega (arith, room.objects)))
 
 -- what a machine has written when the statements are done
 pub written : (program : SmallLists) (old new : Machine) (body : List SmallStmt) → body ≡ program.body → old.shape ≡ classes_of program.fields → progress_of old ≡ start_of (classes_of program.fields) →

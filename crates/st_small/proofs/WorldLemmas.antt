@@ -7,7 +7,8 @@ use Rattle.st_events.specs.World.{World, without, world_from}
 use Rattle.st_parse.specs.declared.programs.SmallStmt.{SmallStmt}
 use Rattle.st_parse.specs.declared.programs.SmallStmt.TheVariants.{Make, Put, Check}
 use Rattle.st_parse.specs.Small.{SmallLists}
-use Rattle.st_small.specs.Program.{Comparison, AreInOrder, checks_of, shape_of}
+use Rattle.st_parse.specs.Sound.{AreSound}
+use Rattle.st_small.specs.Program.{Comparison, checks_of, shape_of}
 use Rattle.st_small.specs.Running.{Progress, events_of}
 use Rattle.st_small.proofs.LocalLemmas.{HaveObjects, have-objects-after}
 
@@ -26,7 +27,7 @@ pub record IsReady (program : SmallLists) (sizes : Sizes) (w : World) (left : Li
   pub epoch : w.epoch ≡ length done
   pub active : w.active ≡ []
   pub objects : HaveObjects program.fields w.heap (w.made 0)
-  pub in_order : AreInOrder program.fields (w.made 0) left
+  pub in_order : AreSound program.fields (w.made 0) left
   pub room : w.made 0 + length left ≤ sizes.objects
 
 retired : (n : ℕ) (active : List ℕ) → active ≡ [] → without n (active ++ n ∷ []) ≡ []
@@ -40,7 +41,7 @@ ready-next program sizes w Make left r = record {
   epoch = r.epoch;
   active = r.active;
   objects = have-objects-after program.fields (progress_in w) Make r.objects;
-  in_order = r.in_order;
+  in_order = r.in_order.1;
   room = omega (arith, r.room);
 }
 ready-next program sizes w (Put local field value) left r = record {
@@ -49,7 +50,7 @@ ready-next program sizes w (Put local field value) left r = record {
   epoch = r.epoch;
   active = r.active;
   objects = have-objects-after program.fields (progress_in w) (Put local field value) r.objects;
-  in_order = r.in_order.2;
+  in_order = r.in_order.1;
   room = omega (arith, r.room);
 }
 ready-next program sizes w (Check local field value place) left r = record {
@@ -58,6 +59,6 @@ ready-next program sizes w (Check local field value place) left r = record {
   epoch = omega (arith, r.epoch, length-append r.done (record { field = field; value = value } ∷ []));
   active = retired (w.epoch + 1) w.active r.active;
   objects = r.objects;
-  in_order = r.in_order.2;
+  in_order = r.in_order.1;
   room = omega (arith, r.room);
 }

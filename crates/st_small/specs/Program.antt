@@ -1,19 +1,17 @@
 -- What a small program is to the heap, and the value of its checks.
-use Rattle.std.specs.Prelude.{◌≡◌, ℕ, ◌+◌, ◌<◌, ◌≤◌, Bool, cond, List, [], ◌∷◌, length, map, Option, Some, None, slice_get, slice_index}
-use Rattle.st_events.specs.declared.shapes.Kind.{Kind}
-use Rattle.st_events.specs.declared.shapes.Kind.TheVariants.{Int, Ref}
-use Rattle.st_events.specs.declared.shapes.TheConstants.{MOST_FIELDS}
+use Rattle.std.specs.Prelude.{ℕ, Bool, cond, List, [], ◌∷◌, All, map, Option, Some, None, slice_get, slice_index}
+use Rattle.st_events.specs.declared.shapes.Kind.TheVariants.{Ref}
 use Rattle.st_events.specs.declared.events.Args.{Args}
 use Rattle.st_events.specs.declared.verdicts.Plain.{Plain}
 use Rattle.st_events.specs.declared.verdicts.Plain.TheVariants.{Holds, Fails}
-use Rattle.st_events.specs.Kind.{AreKindsWithin}
+use Rattle.st_events.specs.Kind.{IsDeclaredKind}
 use Rattle.st_events.specs.Shape.{ShapeLists}
 use Rattle.st_events.specs.Heap.{Heap, word_at}
 use Rattle.st_events.specs.Legal.{is_word}
 use Rattle.st_parse.specs.declared.programs.SmallStmt.{SmallStmt}
 use Rattle.st_parse.specs.declared.programs.SmallStmt.TheVariants.{Make, Put, Check}
-use Rattle.st_parse.specs.declared.limits.TheConstants.{MOST_STATEMENTS}
 use Rattle.st_parse.specs.Small.{SmallLists}
+use Rattle.st_parse.specs.Sound.{IsSound}
 use Rattle.st_small.specs.declared.limits.TheConstants.{NODE_CLASS, CLASSES}
 
 -- the expression of a check statement: a field of its one argument is compared with a number
@@ -55,16 +53,7 @@ value_on heap args (Some expression) = plain_of (comparison_holds heap (argument
 abbrev pub plain_value : SmallLists → Heap → ℕ → Args → Plain
 plain_value program heap site args = value_on heap args (slice_get (checks_of program.body) site)
 
--- where so many locals are made already, each statement names a local that is made before it and a field of the class that
--- is a number
-abbrev pub AreInOrder : List Kind → ℕ → List SmallStmt → Type 0
-AreInOrder fields made [] = Unit {0}
-AreInOrder fields made (Make ∷ rest) = AreInOrder fields (made + 1) rest
-AreInOrder fields made (Put local field value ∷ rest) = (local < made) × (slice_get fields field ≡ Some Int) × AreInOrder fields made rest
-AreInOrder fields made (Check local field value place ∷ rest) = (local < made) × (slice_get fields field ≡ Some Int) × AreInOrder fields made rest
-
 -- what is asked of a small program so that it can run; the program of every accepted source is so
 pub record IsWellFormed (program : SmallLists) : Type 0 where
-  pub fields : AreKindsWithin MOST_FIELDS CLASSES program.fields
-  pub statements : length program.body ≤ MOST_STATEMENTS
-  pub in_order : AreInOrder program.fields 0 program.body
+  pub sound : IsSound program
+  pub kinds : All (IsDeclaredKind CLASSES) program.fields
