@@ -1,0 +1,11 @@
+-- Devices of the system, which tell no content.
+use Rattle.std.specs.Prelude.{ℕ, List, Option, None}
+
+-- what was counted at the files of the system: the calls that were refused, and the bytes taken
+pub record Counted : Type 0 where
+  pub faults : ℕ
+  pub taken : ℕ
+
+-- the bytes of no file are told
+abbrev pub untold : List ℕ → Option (List ℕ)
+untold _ = None

@@ -1,0 +1,7 @@
+pub mod Counts
+pub mod Device
+pub mod Growth
+pub mod MemoryFiles
+pub mod MemorySink
+pub mod SureFiles
+pub mod Taking

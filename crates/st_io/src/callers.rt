@@ -1,0 +1,44 @@
+//! What a caller that is generic in its files and its sink can promise from their traits alone.
+ghost use Rattle.std.specs.Prelude.{◌≡◌, ◌≢◌, ◌≤◌, ◌++◌, length, IfOk, IfSome, OnOk, OnErr};
+ghost use Rattle.st_io.specs.Counts.{RoseBy};
+ghost use Rattle.st_io.specs.Growth.{Grows, GrowsByPrefix};
+
+use crate::{Files, FilesFault, Sink, SinkFault, SureFiles, SureSink};
+use std::alloc::Global;
+
+// Puts two pieces one after another, and the second only after the first.
+fn put_both<S: Sink>(out: &mut S, first: &[u8], second: &[u8]) -> Result<(), SinkFault>
+    ensures ok { OnOk result (Grows (S.written out.old) (first.now ++ second.now) (S.written out.new)) }
+    ensures cut { OnErr result
+        (GrowsByPrefix (S.written out.old) (first.now ++ second.now) (S.written out.new)) }
+    ensures failed { OnErr result (RoseBy 1 (S.faults out.old) (S.faults out.new)) }
+    ensures faults { S.faults out.old ≤ S.faults out.new }
+{
+    out.put(first)?;
+    out.put(second)
+}
+
+// How many bytes a file has.
+fn size<F: Files>(alloc: Global, files: &mut F, name: &str) -> Result<usize, FilesFault>
+    ensures size { IfOk result (λ size. IfSome (F.told files.old name.now) (λ bytes. size ≡ length bytes)) }
+    ensures failed { result ≡ Err FilesFault.Failed → RoseBy 1 (F.faults files.old) (F.faults files.new) }
+    ensures faults { F.faults files.old ≤ F.faults files.new }
+{
+    let mut bytes = Vec::new(alloc);
+    files.read_whole(name, 1_000, &mut bytes)?;
+    Ok(bytes.len())
+}
+
+// Over the sure ones no fault is answered.
+fn sure_size(alloc: Global, files: &mut SureFiles) -> Result<usize, FilesFault>
+    ensures size { IfOk result (λ size. size ≡ length files.old.text) }
+    ensures no_fault { result ≢ Err FilesFault.Failed }
+{
+    size(alloc, files, "any")
+}
+
+fn sure_put(out: &mut SureSink) -> Result<(), SinkFault>
+    ensures { result ≡ Ok tt }
+{
+    put_both(out, b"one", b"two")
+}

@@ -1,0 +1,68 @@
+//! Files that are always there and a sink that takes everything, for tests: their counts of faults are always 0.
+ghost use Rattle.std.specs.Prelude.{◌≡◌};
+
+use crate::faults::{FilesFault, SinkFault};
+use crate::giving::give;
+use crate::reading::Files;
+use crate::writing::Sink;
+use std::marker::Model;
+
+/// One text for every name. Contracts see the text, and how many bytes of it were taken.
+#[derive(Debug, Drop)]
+pub struct SureFiles {
+    text: Vec<u8>,
+    taken: u64,
+}
+
+impl Model for SureFiles {
+    ghost use Rattle.st_io.specs.SureFiles.{Sure};
+
+    ghost Value = { Sure };
+
+    ghost view = { λ files. record { text = files.text.items; taken = files.taken } };
+}
+
+impl SureFiles {
+    /// Gives `text` for every name.
+    pub fn make(text: Vec<u8>) -> SureFiles
+        ensures text { result.text ≡ text.items }
+        ensures taken { result.taken ≡ 0 }
+    {
+        SureFiles { text, taken: 0 }
+    }
+}
+
+impl Files for SureFiles {
+    ghost use Rattle.std.specs.Prelude.{Some};
+
+    ghost told = { λ files _. Some files.text };
+
+    ghost faults = { λ _. 0 };
+
+    ghost taken = { λ files. files.taken };
+
+    fn read_whole(
+        &mut self,
+        _name: &str,
+        limit: u32,
+        into: &mut Vec<u8>,
+    ) -> Result<(), FilesFault> {
+        give(&self.text, limit, &mut self.taken, into)
+    }
+}
+
+/// A sink that takes all bytes, keeps none and tells none.
+#[derive(Clone, Copy, Debug)]
+pub struct SureSink;
+
+impl Sink for SureSink {
+    ghost use Rattle.std.specs.Prelude.{None};
+
+    ghost written = { λ _. None };
+
+    ghost faults = { λ _. 0 };
+
+    fn put(&mut self, _bytes: &[u8]) -> Result<(), SinkFault> {
+        Ok(())
+    }
+}
