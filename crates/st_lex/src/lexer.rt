@@ -1,0 +1,46 @@
+//! The tokens of a text, in one pass.
+ghost use Rattle.std.specs.Prelude.{◌≡◌, ◌≤◌, ℕ, length, IfOk, IsErrOf};
+ghost use Rattle.st_events.specs.declared.events.Site.{Site};
+ghost use Rattle.st_lex.specs.Answers.{StopsAt, Gives};
+ghost use Rattle.st_lex.specs.Reading.{read_tokens};
+ghost use Rattle.st_lex.specs.Tokens.{IsTokensOf};
+ghost use Rattle.st_lex.specs.declared.faults.Fault.TheVariants as fault;
+
+use crate::cursors::Cursor;
+use crate::faults::LexError;
+use crate::kinds::Token;
+use crate::limits::MOST_SOURCE_BYTES;
+use crate::pieces::{Piece, front_piece};
+use std::alloc::Global;
+
+/// The tokens of a source text of at most `MOST_SOURCE_BYTES` bytes, in order.
+pub fn tokens(alloc: Global, text: &[u8]) -> Result<Vec<Token>, LexError>
+    requires { length text.now ≤ MOST_SOURCE_BYTES }
+    ensures tokens { IfOk result (λ list. IsTokensOf text.now list.items) }
+    ensures bad_byte { (at : Site) → IsErrOf result (LexError.BadByte at) → StopsAt text.now fault.BadByte at }
+    ensures long_number { (at : Site) → IsErrOf result (LexError.LongNumber at) → StopsAt text.now fault.LongNumber at }
+    // Memory aside, it is the one answer that the text has.
+    ensures exact { Gives (λ list. list.items) text.now result (read_tokens text.now) }
+{
+    read_all(alloc, text)
+}
+
+fn read_all(alloc: Global, text: &[u8]) -> Result<Vec<Token>, LexError>
+    requires { length text.now ≤ MOST_SOURCE_BYTES }
+    ensures { Gives (λ list. list.items) text.now result (read_tokens text.now) }
+{
+    let mut list = Vec::new(alloc);
+    let mut cursor = Cursor::start();
+    while cursor.place < text.len() {
+        match front_piece(&text[cursor.place..]) {
+            Piece::Newline => cursor.next_line(),
+            Piece::Gap(len) => cursor.skip(len),
+            Piece::Found(kind, len) => {
+                list.push(cursor.token(kind, len))?;
+                cursor.skip(len);
+            }
+            Piece::Wrong(fault) => return Err(fault.at(cursor.site)),
+        }
+    }
+    Ok(list)
+}

@@ -1,0 +1,18 @@
+//! Cuts a source text into names, keywords, numbers and marks, or tells the first place that is none of these.
+//! The definition of the tokens of a text stands in `specs/Tokens.antt`; `tokens` gives exactly that list.
+#![tactic(auto)]
+
+mod bytes;
+mod cursors;
+mod faults;
+mod kinds;
+mod lexer;
+mod limits;
+mod numbers;
+mod pieces;
+mod words;
+
+pub use faults::LexError;
+pub use kinds::{Token, TokenKind};
+pub use lexer::tokens;
+pub use limits::{LARGEST_NUMBER, MOST_SOURCE_BYTES};

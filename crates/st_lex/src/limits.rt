@@ -1,0 +1,6 @@
+//! The limits of a source text and of the numbers in it.
+
+/// The most bytes of a source text.
+pub const MOST_SOURCE_BYTES: usize = 1_048_576;
+/// The largest number that a source text may name.
+pub const LARGEST_NUMBER: u64 = 9_223_372_036_854_775_807;
