@@ -1,0 +1,5 @@
+pub mod Code
+pub mod Machine
+pub mod Program
+pub mod Right
+pub mod Running

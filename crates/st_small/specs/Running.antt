@@ -1,0 +1,67 @@
+-- The run of a small program as a function of its statements: the working definition that the code meets step by step.
+use Rattle.std.specs.Prelude.{◌≡◌, ℕ, ◌+◌, ◌<◌, List, [], ◌∷◌, ◌++◌, IsSome, slice_get}
+use Rattle.st_events.specs.declared.events.Event.{Event}
+use Rattle.st_events.specs.declared.events.Event.TheVariants.{New, Store, Launch, Retire}
+use Rattle.st_events.specs.declared.verdicts.Verdict.{Verdict}
+use Rattle.st_events.specs.declared.verdicts.Verdict.TheVariants.{Plain as Value}
+use Rattle.st_events.specs.Shape.{ShapeLists}
+use Rattle.st_events.specs.Heap.{Heap, with_object, with_word, word_at, fresh}
+use Rattle.st_parse.specs.declared.programs.SmallStmt.{SmallStmt}
+use Rattle.st_parse.specs.declared.programs.SmallStmt.TheVariants.{Make, Put, Check}
+use Rattle.st_small.specs.declared.limits.TheConstants.{NODE_CLASS, ONLY_THREAD, FIRST_OBJECT}
+use Rattle.st_small.specs.Program.{Comparison, plain_of, comparison_holds}
+use Rattle.st_small.specs.Code.{one_argument}
+
+-- where a run stands: the heap, how many locals are made, and how many checks are launched
+pub record Progress : Type 0 where
+  pub heap : Heap
+  pub made : ℕ
+  pub launched : ℕ
+
+-- the object of a local, which are numbered in the order in which they are made
+abbrev pub object_of_local : ℕ → ℕ
+object_of_local k = FIRST_OBJECT + k
+
+-- the value of a check on the heap as it stands
+abbrev pub verdict_at : Progress → ℕ → ℕ → ℕ → Verdict
+verdict_at at local field value = Value (plain_of (comparison_holds at.heap (object_of_local local) (record { field = field; value = value })))
+
+-- the events of one statement
+abbrev pub events_of : Progress → SmallStmt → List Event
+events_of at Make = New ONLY_THREAD (object_of_local at.made) NODE_CLASS ∷ []
+events_of at (Put local field value) = Store ONLY_THREAD (object_of_local local) field value ∷ []
+events_of at (Check local field value place) =
+    Launch ONLY_THREAD (at.launched + 1) at.launched (one_argument (object_of_local local)) ∷ Retire ONLY_THREAD (at.launched + 1) ∷ []
+
+-- the verdict of one statement, if it is a check
+abbrev pub verdicts_of : Progress → SmallStmt → List Verdict
+verdicts_of at Make = []
+verdicts_of at (Put local field value) = []
+verdicts_of at (Check local field value place) = verdict_at at local field value ∷ []
+
+-- where the run stands after one statement
+abbrev pub after : ShapeLists → Progress → SmallStmt → Progress
+after shape at Make = record at { heap = with_object at.heap (object_of_local at.made) (fresh shape NODE_CLASS); made = at.made + 1 }
+after shape at (Put local field value) = record at { heap = with_word at.heap (object_of_local local) field value }
+after shape at (Check local field value place) = record at { launched = at.launched + 1 }
+
+-- the events of statements, one after another
+abbrev pub events_from : ShapeLists → Progress → List SmallStmt → List Event
+events_from shape at [] = []
+events_from shape at (statement ∷ rest) = events_of at statement ++ events_from shape (after shape at statement) rest
+
+-- their verdicts
+abbrev pub verdicts_from : ShapeLists → Progress → List SmallStmt → List Verdict
+verdicts_from shape at [] = []
+verdicts_from shape at (statement ∷ rest) = verdicts_of at statement ++ verdicts_from shape (after shape at statement) rest
+
+-- the statement can be done: a new object has a place, and a cell that is used exists
+abbrev pub CanDo : ℕ → Progress → SmallStmt → Type 0
+CanDo room at Make = object_of_local at.made < room
+CanDo room at (Put local field value) = IsSome (word_at at.heap (object_of_local local) field)
+CanDo room at (Check local field value place) = Unit {0}
+
+-- each statement can be done where it stands
+abbrev pub CanDoAll : ShapeLists → ℕ → Progress → List SmallStmt → Type 0
+CanDoAll shape room at [] = Unit {0}
+CanDoAll shape room at (statement ∷ rest) = CanDo room at statement × CanDoAll shape room (after shape at statement) rest

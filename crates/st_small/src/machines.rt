@@ -1,0 +1,105 @@
+//! A run in progress: the heap, and what has been written of it so far. Each statement form is one step.
+ghost use Rattle.std.specs.Prelude.{◌≡◌, ◌+◌, ◌<◌, ◌++◌, ◌∷◌, [], length, IsSome, OnOk};
+
+use crate::limits::{FIRST_OBJECT, NODE_CLASS, ONLY_THREAD};
+use st_events::{Args, Event, HeapMap, Journal, NoMemory, Plain, Shape, Verdict};
+use st_parse::SmallStmt;
+
+/// The one thread of a small program between two statements.
+#[derive(Debug, Drop)]
+pub struct Machine {
+    pub shape: Shape,
+    pub heap: HeapMap,
+    pub journal: Journal,
+    pub verdicts: Vec<Verdict>,
+    /// How many locals are made.
+    pub made: u32,
+    /// How many checks are launched.
+    pub launched: u16,
+}
+
+impl Machine {
+    /// Does one statement.
+    pub fn step(&mut self, statement: SmallStmt) -> Result<(), NoMemory> {
+        match statement {
+            SmallStmt::Make => self.make_object(),
+            SmallStmt::Put {
+                local,
+                field,
+                value,
+            } => self.put(local, field, value),
+            SmallStmt::Check {
+                local,
+                field,
+                value,
+                site: _,
+            } => self.check(local, field, value),
+        }
+    }
+
+    /// Makes the object of the next local.
+    fn make_object(&mut self) -> Result<(), NoMemory> {
+        let obj = FIRST_OBJECT + self.made;
+        self.heap.put_new(&self.shape, obj, NODE_CLASS);
+        self.made += 1;
+        self.journal.push(Event::New {
+            m: ONLY_THREAD,
+            obj,
+            class: NODE_CLASS,
+        })
+    }
+
+    /// Stores a number in a field of a local's object.
+    fn put(&mut self, local: u8, field: u8, value: u64) -> Result<(), NoMemory> {
+        let obj = object_of(local);
+        self.heap.set(obj, field, value);
+        self.journal.push(Event::Store {
+            m: ONLY_THREAD,
+            obj,
+            field,
+            value,
+        })
+    }
+
+    /// Launches a check, evaluates it at once, and retires it.
+    fn check(&mut self, local: u8, field: u8, value: u64) -> Result<(), NoMemory> {
+        let obj = object_of(local);
+        let site = self.launched;
+        let number = u32::from(site) + 1;
+        self.launched += 1;
+        self.journal.push(Event::Launch {
+            m: ONLY_THREAD,
+            number,
+            site,
+            args: one_argument(u64::from(obj)),
+        })?;
+        let verdict = self.value_of(obj, field, value);
+        self.verdicts.push(verdict)?;
+        self.journal.push(Event::Retire {
+            m: ONLY_THREAD,
+            number,
+        })
+    }
+
+    /// Whether a field of an object has a value, on the heap as it stands.
+    fn value_of(&self, obj: u32, field: u8, value: u64) -> Verdict {
+        if self.heap.get(obj, field) == Some(value) {
+            Verdict::Plain(Plain::Holds)
+        } else {
+            Verdict::Plain(Plain::Fails)
+        }
+    }
+}
+
+/// The object of a local; locals are numbered in the order in which they are made.
+fn object_of(local: u8) -> u32 {
+    FIRST_OBJECT + u32::from(local)
+}
+
+/// The arguments of a check with one argument.
+fn one_argument(value: u64) -> Args {
+    Args {
+        count: 1,
+        words: [value, 0, 0, 0],
+    }
+}
