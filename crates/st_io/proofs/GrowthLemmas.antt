@@ -1,5 +1,5 @@
 -- Laws of bytes that grow: puts that follow one another, and a put that stops them.
-use Rattle.std.proofs.Common.{◌≡◌, ℕ, List, [], ◌++◌, take, drop, Option, Some, None, IfSome, refl, sym, ap, ◌∙◌, append_assoc}
+use Rattle.std.proofs.Common.{◌≡◌, ℕ, zero, suc, ◌<◌, List, [], ◌∷◌, ◌++◌, length, get_or, take, drop, flat_map, Option, Some, None, IfSome, refl, sym, ap, ◌∙◌, append_assoc, arith}
 use Rattle.std.proofs.lemmas.List.{append-nil, take-append-drop}
 use Rattle.st_io.specs.Growth.{Grows, GrowsByPrefix}
 
@@ -64,3 +64,20 @@ GrowsByPrefix-take written piece now n is = record {
   whole = sym (take-append-drop n piece);
   grew = record { told = ap Some is };
 }
+
+-- a put that stopped within a piece of a longer text, after all that stands before the piece
+pub GrowsByPrefix-within : (before between now : Option (List ℕ)) (text xs piece rest : List ℕ)
+    → text ≡ xs ++ (piece ++ rest) → Grows before xs between → GrowsByPrefix between piece now
+    → GrowsByPrefix before text now
+GrowsByPrefix-within before between now text xs piece rest is first cut =
+    rw is (GrowsByPrefix-append before between now xs (piece ++ rest) first (GrowsByPrefix-stopped between now piece rest cut))
+
+-- the pieces of a list, one after another: those before the piece at i, that piece, and those after it
+pub flat_map-at : {X : Type 0} (pieces : X → List ℕ) (xs : List X) (i : ℕ) (x : X)
+    → i < length xs → x ≡ get_or xs i x
+    → flat_map pieces xs ≡ flat_map pieces (take i xs) ++ (pieces x ++ flat_map pieces (drop (suc i) xs))
+flat_map-at pieces [] i x within is = absurd (omega arith)
+flat_map-at pieces (y ∷ ys) zero x within is = ap (λ z. pieces z ++ flat_map pieces ys) (sym is)
+flat_map-at pieces (y ∷ ys) (suc i) x within is =
+    ap (λ zs. pieces y ++ zs) (flat_map-at pieces ys i x (omega arith) is)
+    ∙ sym (append_assoc (pieces y) (flat_map pieces (take i ys)) (pieces x ++ flat_map pieces (drop (suc i) ys)))

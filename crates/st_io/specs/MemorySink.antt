@@ -1,5 +1,5 @@
 -- A sink in memory.
-use Rattle.std.specs.Prelude.{ℕ, ◌+◌, List, [], ◌∷◌, ◌++◌, length, take, Option, Some, None, if◌then◌else◌, ◌==◌, nat_lt}
+use Rattle.std.specs.Prelude.{ℕ, ◌+◌, List, ◌++◌, length, take, Option, Some, None, if◌then◌else◌, ◌==◌, nat_lt, option_map, find}
 use Rattle.st_io.specs.Counts.{raised}
 
 -- the bytes written, how many fit, which puts are to fail after how many bytes, and what was counted so far
@@ -11,9 +11,8 @@ pub record Held : Type 0 where
   pub faults : ℕ
 
 -- how many bytes the put with this number appends before it fails, by the first entry
-abbrev pub cut_of : List (ℕ × ℕ) → ℕ → Option ℕ
-cut_of [] number = None
-cut_of (entry ∷ failing) number = if entry.0 == number then Some entry.1 else cut_of failing number
+unfoldable pub cut_of : List (ℕ × ℕ) → ℕ → Option ℕ
+cut_of failing number = option_map (λ entry. entry.1) (find (λ entry. entry.0 == number) failing)
 
 -- how many bytes of the piece the next put appends before it fails, if it fails: none past the room
 abbrev pub cut : Held → List ℕ → Option ℕ

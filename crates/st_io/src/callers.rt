@@ -1,21 +1,24 @@
 //! What a caller that is generic in its files and its sink can promise from their traits alone.
-ghost use Rattle.std.specs.Prelude.{◌≡◌, ◌≢◌, ◌≤◌, ◌++◌, length, IfOk, IfSome, OnOk, OnErr};
+ghost use Rattle.std.specs.Prelude.{◌≡◌, ◌≢◌, ◌≤◌, length, flat_map, string_bytes, IfOk, IfSome, OnOk, OnErr};
 ghost use Rattle.st_io.specs.Counts.{RoseBy};
 ghost use Rattle.st_io.specs.Growth.{Grows, GrowsByPrefix};
 
 use crate::{Files, FilesFault, Sink, SinkFault, SureFiles, SureSink};
 use std::alloc::Global;
 
-// Puts two pieces one after another, and the second only after the first.
-fn put_both<S: Sink>(out: &mut S, first: &[u8], second: &[u8]) -> Result<(), SinkFault>
-    ensures ok { OnOk result (Grows (S.written out.old) (first.now ++ second.now) (S.written out.new)) }
+// Puts the lines one after another, until a put fails.
+fn put_all<S: Sink>(out: &mut S, lines: &[String]) -> Result<(), SinkFault>
+    ensures ok { OnOk result
+        (Grows (S.written out.old) (flat_map (λ line. string_bytes line) lines.now) (S.written out.new)) }
     ensures cut { OnErr result
-        (GrowsByPrefix (S.written out.old) (first.now ++ second.now) (S.written out.new)) }
+        (GrowsByPrefix (S.written out.old) (flat_map (λ line. string_bytes line) lines.now) (S.written out.new)) }
     ensures failed { OnErr result (RoseBy 1 (S.faults out.old) (S.faults out.new)) }
     ensures faults { S.faults out.old ≤ S.faults out.new }
 {
-    out.put(first)?;
-    out.put(second)
+    for line in lines {
+        out.put(line.as_bytes())?;
+    }
+    Ok(())
 }
 
 // How many bytes a file has.
@@ -37,8 +40,8 @@ fn sure_size(alloc: Global, files: &mut SureFiles) -> Result<usize, FilesFault>
     size(alloc, files, "any")
 }
 
-fn sure_put(out: &mut SureSink) -> Result<(), SinkFault>
+fn sure_put(out: &mut SureSink, lines: &[String]) -> Result<(), SinkFault>
     ensures { result ≡ Ok tt }
 {
-    put_both(out, b"one", b"two")
+    put_all(out, lines)
 }

@@ -69,15 +69,14 @@ impl MemSink {
 }
 
 // How many bytes the put with this number appends before it fails, if it is to fail.
+#[tactic(auto, unfolding(crate::specs::MemorySink::cut_of))]
 fn listed_cut(failing: &[(u32, u32)], put: u64) -> Option<u32>
     ensures { result ≡ cut_of failing.now put }
 {
-    for (number, count) in failing {
-        if u64::from(*number) == put {
-            return Some(*count);
-        }
-    }
-    None
+    failing
+        .iter()
+        .find(|entry| u64::from(entry.0) == put)
+        .map(|entry| entry.1)
 }
 
 // How many bytes of a piece of `size` bytes go into a sink of `held` bytes before the put fails, if it fails.
