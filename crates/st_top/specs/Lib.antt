@@ -1,0 +1,5 @@
+pub mod Endings
+pub mod LineBytes
+pub mod Report
+pub mod Texts
+pub mod Words

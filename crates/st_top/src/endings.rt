@@ -1,0 +1,124 @@
+//! How a call can end, and the status of each end.
+ghost use Rattle.std.specs.Prelude.{◌≡◌};
+ghost use Rattle.st_top.specs.Endings.{line_of, status_of, refused_status, files_refusal, source_refusal};
+
+use st_events::NoMemory;
+use st_io::FilesFault;
+use st_parse::SmallError;
+
+/// The status where every check holds.
+pub const STATUS_HOLDS: u8 = 0;
+/// The status where some check fails.
+pub const STATUS_CHECK_FAILS: u8 = 1;
+/// The status where the words are refused.
+pub const STATUS_WORDS: u8 = 2;
+/// The status where the source is refused.
+pub const STATUS_SOURCE: u8 = 3;
+/// The status where a read of the file failed.
+pub const STATUS_READ_FAULT: u8 = 5;
+/// The status where a write of the report failed.
+pub const STATUS_WRITE_FAULT: u8 = 6;
+/// The status where there was no memory.
+pub const STATUS_NO_MEMORY: u8 = 7;
+
+/// Why a call comes to no run. One line is written then.
+#[derive(Clone, Copy, Debug, PartialEq, Eq)]
+pub enum Refusal {
+    /// The words are not `run` and a file.
+    Words,
+    /// There was no memory.
+    NoMemory,
+    /// The file could not be read to its end.
+    ReadFault,
+    /// The file has more bytes than a source may have.
+    SourceTooLong,
+    /// The file is no source that can be run.
+    SourceNotBuilt,
+}
+
+/// How a call ended.
+#[derive(Clone, Copy, Debug, PartialEq, Eq)]
+pub enum Ending {
+    /// The report was written, and no check fails.
+    Holds,
+    /// The report was written, and some check fails.
+    CheckFails,
+    /// The source was run, and a write of its report failed.
+    WriteFault,
+    /// There was no run.
+    Refused(Refusal),
+}
+
+impl Refusal {
+    /// The line that is written, with its newline.
+    pub fn line(self) -> &'static [u8]
+        ensures { result.now ≡ line_of self }
+    {
+        match self {
+            Refusal::Words => b"words refused\n",
+            Refusal::NoMemory => b"no memory\n",
+            Refusal::ReadFault => b"read fault\n",
+            Refusal::SourceTooLong => b"source too long\n",
+            Refusal::SourceNotBuilt => b"source not built\n",
+        }
+    }
+
+    /// The status of a call that was refused.
+    fn status(self) -> u8
+        ensures { result ≡ refused_status self }
+    {
+        match self {
+            Refusal::Words => STATUS_WORDS,
+            Refusal::NoMemory => STATUS_NO_MEMORY,
+            Refusal::ReadFault => STATUS_READ_FAULT,
+            Refusal::SourceTooLong | Refusal::SourceNotBuilt => STATUS_SOURCE,
+        }
+    }
+}
+
+impl Ending {
+    /// The status that the program ends with.
+    pub fn status(self) -> u8
+        ensures { result ≡ status_of self }
+    {
+        match self {
+            Ending::Holds => STATUS_HOLDS,
+            Ending::CheckFails => STATUS_CHECK_FAILS,
+            Ending::WriteFault => STATUS_WRITE_FAULT,
+            Ending::Refused(refusal) => refusal.status(),
+        }
+    }
+}
+
+impl From<FilesFault> for Refusal {
+    ghost from_gives = { λ fault refusal. refusal ≡ files_refusal fault };
+
+    fn from(fault: FilesFault) -> Refusal {
+        match fault {
+            FilesFault::Memory => Refusal::NoMemory,
+            FilesFault::Failed => Refusal::ReadFault,
+            FilesFault::TooLong => Refusal::SourceTooLong,
+        }
+    }
+}
+
+impl From<SmallError> for Refusal {
+    ghost from_gives = { λ error refusal. refusal ≡ source_refusal error };
+
+    fn from(error: SmallError) -> Refusal {
+        match error {
+            SmallError::Memory => Refusal::NoMemory,
+            SmallError::NotBuilt => Refusal::SourceNotBuilt,
+        }
+    }
+}
+
+impl From<NoMemory> for Refusal {
+    ghost use Rattle.st_top.specs.declared.endings.Refusal.TheVariants.{NoMemory as NoMemoryRefusal};
+
+    ghost from_gives = { λ _ refusal. refusal ≡ NoMemoryRefusal };
+
+    fn from(_error: NoMemory) -> Refusal {
+        Refusal::NoMemory
+    }
+}

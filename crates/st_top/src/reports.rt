@@ -1,0 +1,123 @@
+//! The report of a run: which lines it has.
+ghost use Rattle.std.specs.Prelude.{◌≡◌, IfOk};
+ghost use Rattle.std.specs.List.{filter_map};
+ghost use Rattle.st_events.specs.History.{is_own as is_own_of, own_events};
+ghost use Rattle.st_top.specs.Report.{heads_of, site_of, launched as launched_by, check_lines as check_lines_of, report_lines};
+ghost use Rattle.st_top.specs.LineBytes.{line_bytes};
+
+use crate::lines::{check_line, count_line, thread_line};
+use st_events::{Event, NoMemory, Ran, Site, Verdict};
+use st_parse::{Small, SmallStmt};
+use std::alloc::Global;
+use std::marker::Model;
+
+/// The one thread of a small program.
+pub const ONLY_THREAD: u8 = 0;
+
+/// The lines of a report, each with its newline. Contracts see the list of their bytes.
+#[derive(Debug, Drop)]
+pub struct Report {
+    lines: Vec<Vec<u8>>,
+}
+
+impl Model for Report {
+    ghost use Rattle.std.specs.Prelude.{ℕ, List};
+    ghost use Rattle.st_top.specs.LineBytes.{line_bytes};
+
+    ghost Value = { List (List ℕ) };
+
+    ghost view = { λ report. line_bytes report.lines.items };
+}
+
+impl Report {
+    /// The report of a run of the program: a line for each check that was launched, one for the end of the thread, and
+    /// the counts of the verdicts.
+    pub fn make(alloc: Global, small: &Small, ran: &Ran) -> Result<Report, NoMemory>
+        ensures { IfOk result (λ report. report ≡ report_lines (heads_of small.now) ran.now) }
+    {
+        let sites = check_sites(alloc, &small.body)?;
+        let mut lines = check_lines(alloc, &small.thread, &sites, &ran.verdicts, &ran.journal)?;
+        match ran.ends.first() {
+            Some(end) => lines.push(thread_line(alloc, &small.thread, *end)?)?,
+            None => {}
+        }
+        lines.push(count_line(alloc, &ran.verdicts)?)?;
+        Ok(Report { lines })
+    }
+
+    /// The lines, in order.
+    pub fn lines(&self) -> &[Vec<u8>]
+        ensures { line_bytes result.now ≡ self.now }
+    {
+        self.lines.as_slice()
+    }
+}
+
+/// The places of the check statements, in source order.
+fn check_sites(alloc: Global, body: &[SmallStmt]) -> Result<Vec<Site>, NoMemory>
+    ensures { IfOk result (λ sites. sites.items ≡ filter_map site_of body.now) }
+{
+    let mut sites = Vec::new(alloc);
+    for statement in body {
+        match statement {
+            SmallStmt::Check { site, .. } => sites.push(*site)?,
+            SmallStmt::Make | SmallStmt::Put { .. } => {}
+        }
+    }
+    Ok(sites)
+}
+
+/// The lines of the launches among the thread's own events, in their order.
+fn check_lines(
+    alloc: Global,
+    thread: &[u8],
+    sites: &[Site],
+    verdicts: &[Verdict],
+    journal: &[Event],
+) -> Result<Vec<Vec<u8>>, NoMemory>
+    ensures { IfOk result (λ lines. line_bytes lines.items
+        ≡ check_lines_of thread.now sites.now verdicts.now (own_events ONLY_THREAD journal.now)) }
+{
+    let mut lines = Vec::new(alloc);
+    let mut count: usize = 0;
+    for event in journal {
+        if is_own(ONLY_THREAD, *event) {
+            count += 1;
+            match launched(sites, verdicts, *event) {
+                Some((site, verdict)) => {
+                    lines.push(check_line(alloc, thread, count, site, verdict)?)?;
+                }
+                None => {}
+            }
+        }
+    }
+    Ok(lines)
+}
+
+/// Whether the event is an own one of the thread; a Retire is nobody's own.
+fn is_own(thread: u8, event: Event) -> bool
+    ensures { result ≡ is_own_of thread event }
+{
+    match event {
+        Event::New { m, .. }
+        | Event::Load { m, .. }
+        | Event::Store { m, .. }
+        | Event::Cas { m, .. }
+        | Event::Launch { m, .. } => m == thread,
+        Event::Retire { .. } => false,
+    }
+}
+
+/// The place and the verdict of the check that the event launches, if it launches one.
+fn launched(sites: &[Site], verdicts: &[Verdict], event: Event) -> Option<(Site, Verdict)>
+    ensures { result ≡ launched_by sites.now verdicts.now event }
+{
+    match event {
+        Event::Launch { number, site, .. } => {
+            let place = sites.get(usize::from(site))?;
+            let verdict = verdicts.get((number as usize).saturating_sub(1))?;
+            Some((*place, *verdict))
+        }
+        _ => None,
+    }
+}
