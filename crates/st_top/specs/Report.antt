@@ -56,6 +56,10 @@ check_lines thread sites verdicts own = filter_map (event_line thread sites verd
 abbrev pub thread_line : List ℕ → End → List ℕ
 thread_line thread end = codes "thread " ++ (thread ++ (codes " " ++ (end_text end ++ codes "\n")))
 
+-- the ends of the threads, in order
+abbrev pub end_lines : List (List ℕ) → List End → List (List ℕ)
+end_lines threads ends = map (λ thread. thread_line thread.0 thread.1) (zip threads ends)
+
 abbrev pub is_holds : Verdict → Bool
 is_holds (Plain Holds) = true
 is_holds _ = false
@@ -73,11 +77,11 @@ abbrev pub count_line : List Verdict → List ℕ
 count_line verdicts =
     codes "checks " ++ (decimal (length verdicts) ++ (codes " holds " ++ (decimal (count_by is_holds verdicts) ++ (codes " fails " ++ (decimal (count_by is_fails verdicts) ++ (codes " other " ++ (decimal (count_by is_other verdicts) ++ codes "\n")))))))
 
--- the lines: for each thread those of its launches, for each thread that of its end, and the counts
+-- all lines: for each thread those of its launches, for each thread that of its end, and the counts
 unfoldable pub report_lines : Heads → RanLists → List (List ℕ)
 report_lines heads ran =
     flat_map (λ thread. check_lines thread.1 heads.sites ran.verdicts (own_events thread.0 ran.journal)) (enumerate_from 0 heads.threads)
-    ++ (map (λ thread. thread_line thread.0 thread.1) (zip heads.threads ran.ends)
+    ++ (end_lines heads.threads ran.ends
     ++ (count_line ran.verdicts ∷ []))
 
 -- pieces one after another
