@@ -7,4 +7,5 @@ pub mod Legal
 pub mod Ran
 pub mod Shape
 pub mod Sizes
+pub mod Sound
 pub mod World
