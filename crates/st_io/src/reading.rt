@@ -4,15 +4,15 @@ ghost use Rattle.st_io.specs.Counts.{RoseBy};
 
 use crate::faults::FilesFault;
 
-/// Files that are read whole, each by its name.
+/// Files that are read whole, each by its name. Their counts are kept in 64 bits, and stand still at the last value.
 pub trait Files {
     /// The bytes of the file of a name, where they are told.
     ghost told: { Self → List ℕ → Option (List ℕ) };
 
-    /// How many reads have failed.
+    /// How many faults came.
     ghost faults: { Self → ℕ };
 
-    /// How many bytes were taken from the files.
+    /// How many bytes were taken from the files, also for calls that were refused.
     ghost taken: { Self → ℕ };
 
     /// Reads the file `name` to its end into `into`, where it has at most `limit` bytes.

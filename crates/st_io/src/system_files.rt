@@ -10,7 +10,8 @@ use std::fs;
 use std::marker::Model;
 use std::rt::Files as FileSystem;
 
-/// Files of the system. They tell no content. Contracts see how many reads were refused, and how many bytes were taken.
+/// Files of the system. They tell no content. Contracts see how many calls were refused, which are their faults, and how
+/// many bytes were taken.
 #[derive(Drop)]
 pub struct RealFiles<'a, R> {
     rt: &'a R,
@@ -50,6 +51,7 @@ fn read_file<R: FileSystem>(
     requires { into.old.items ≡ [] }
     ensures within { OnOk result (length into.new.items ≤ limit) }
     ensures too_long { result ≡ Err FilesFault.TooLong → RoseBy (limit + 1) taken.old taken.new }
+    ensures counted { OnOk result (taken.new ≡ raised (length into.new.items) taken.old) }
     ensures at_most { taken.new ≤ raised (limit + 1) taken.old }
     ensures grows { taken.old ≤ taken.new }
 {
@@ -81,9 +83,10 @@ impl<R: FileSystem> Files for RealFiles<'_, R> {
         ensures faults { self.old.faults ≤ self.new.faults }
         ensures taken { self.old.taken ≤ self.new.taken }
 
-        // Each refusal is counted, and no more than one byte past the limit is taken.
+        // Each refusal is counted. Every byte that was taken is given, and no more than one past the limit is taken.
         ensures counted { self.new.faults
             ≡ (if is_ok result then self.old.faults else raised 1 self.old.faults) }
+        ensures given { OnOk result (self.new.taken ≡ raised (length into.new.items) self.old.taken) }
         ensures at_most { self.new.taken ≤ raised (limit + 1) self.old.taken }
     {
         let result = read_file(self.rt, name, limit, &mut self.taken, into);

@@ -61,6 +61,7 @@ pub(crate) fn take_whole<S: Read>(
     ensures longer { result ≡ Err FilesFault.TooLong
         → IfSome (S.remaining source.old) (λ bytes. limit < length bytes) }
     ensures too_long { result ≡ Err FilesFault.TooLong → RoseBy (limit + 1) taken.old taken.new }
+    ensures counted { OnOk result (taken.new ≡ raised (length into.new.items) taken.old) }
     ensures at_most { taken.new ≤ raised (limit + 1) taken.old }
     ensures grows { taken.old ≤ taken.new }
 {

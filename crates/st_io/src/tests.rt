@@ -101,12 +101,17 @@ fn a_file_of_the_system_is_read_to_its_limit(rt: HostRuntime) -> Result<(), Fail
     Ok(())
 }
 
+// A run of one event and one read.
+fn play<P: Pace + Sync>(pace: &P) {
+    pace.event(0, 1);
+    pace.read(1, 1);
+}
+
 #[test]
 fn the_standard_output_takes_bytes_and_nobody_is_held(rt: HostRuntime) {
     let mut out = RealSink::make(&rt);
     assert_eq!(rt; out.put(b"written\n"), Ok(()));
-    NoPace.event(0, 1);
-    NoPace.read(1, 1);
+    play(&NoPace);
 }
 
 // A source that gives a byte, is interrupted, gives a byte, and then ends or breaks.

@@ -5,12 +5,12 @@ ghost use Rattle.st_io.specs.Growth.{Grows, GrowsByPrefix};
 
 use crate::faults::SinkFault;
 
-/// A sink that bytes are put into, a piece at a time.
+/// A sink that bytes are put into, a piece at a time. Its count is kept in 64 bits, and stands still at the last value.
 pub trait Sink {
     /// The bytes written, where they are told.
     ghost written: { Self → Option (List ℕ) };
 
-    /// How many puts have failed.
+    /// How many faults came.
     ghost faults: { Self → ℕ };
 
     /// Appends all of `bytes`, without taking memory. At `Failed`, which comes only where a write failed, a front of
