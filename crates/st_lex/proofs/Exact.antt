@@ -1,8 +1,8 @@
 -- What is read of a text is what the definition of its tokens says, and nothing else is.
-use Rattle.std.proofs.Common.{◌≡◌, ℕ, zero, suc, ◌+◌, ◌-◌, ◌<◌, ◌≤◌, Bool, true, false, List, [], ◌∷◌, ◌⊎◌, inl, inr, length, take, drop, refl, ap, sym, ◌∙◌, subst, arith, cond}
+use Rattle.std.proofs.Common.{◌≡◌, ℕ, zero, suc, ◌+◌, ◌-◌, ◌<◌, ◌≤◌, true, false, List, [], ◌∷◌, ◌⊎◌, inl, inr, length, take, drop, refl, ap, sym, ◌∙◌, subst, arith}
 use Rattle.std.specs.Prelude.{Result, Ok, Err, Option, Some, None, slice_index, slice_range}
 use Rattle.std.specs.List.{AllByRecursion}
-use Rattle.std.proofs.lemmas.Bool.{true≢false, false≢true, cases_lt, cases_order}
+use Rattle.std.proofs.lemmas.Bool.{true≢false, cases_lt, cases_order}
 use Rattle.std.proofs.lemmas.List.{length-drop, drop_more}
 use Rattle.st_events.specs.declared.events.Site.{Site}
 use Rattle.st_lex.specs.declared.kinds.Token.{Token}
@@ -12,12 +12,11 @@ use Rattle.st_lex.specs.declared.faults.Fault.TheVariants as fault
 use Rattle.st_lex.specs.declared.limits.TheConstants.{LARGEST_NUMBER}
 use Rattle.st_lex.specs.declared.pieces.Piece.{Piece}
 use Rattle.st_lex.specs.declared.pieces.Piece.TheVariants as piece
-use Rattle.st_lex.specs.Bytes.{is_newline, is_blank, opens_comment}
+use Rattle.st_lex.specs.Bytes.{is_newline, is_blank}
 use Rattle.st_lex.specs.Sites.{site_of}
 use Rattle.st_lex.specs.Spellings.{is_number, is_spelling, decimal, HasForm}
-use Rattle.st_lex.specs.Tokens.{text_of, IsGap, IsLongest, IsToken, AreApart, Spells, IsTokensOf, IsBadByte, IsLongNumber, HasFault, IsFaultOf}
+use Rattle.st_lex.specs.Tokens.{IsLongest, IsToken, AreApart, IsTokensOf, IsBadByte, IsLongNumber, HasFault, IsFaultOf}
 use Rattle.st_lex.specs.Reading.{Stop, front_piece, token_at, with_first, reads_on, read_tokens}
-use Rattle.st_lex.proofs.Runs.{no}
 use Rattle.st_lex.proofs.PieceLemmas.{NoLonger, Stands, GapForm, TokenForm, LongForm, WrongForm, Solid, Means, newline_blank}
 use Rattle.st_lex.proofs.FormLemmas.{one_kind, spelled, number_spelled, no_long_token, spelled_no_blank}
 use Rattle.st_lex.proofs.GapLemmas.{first_at, gap_none, gap_ends, gap_onto, gap_off}
@@ -39,10 +38,10 @@ longest_from text place end forward longest more beyond within =
 -- two longest spellings at one place are equally long
 one_length : (z : List ℕ) (m n : ℕ) → m ≤ length z → n ≤ length z → is_spelling (take m z) ≡ true → is_spelling (take n z) ≡ true → NoLonger z m → NoLonger z n → m ≡ n
 one_length z m n m_in n_in m_spelled n_spelled m_longest n_longest = elim (cases_order m n) [
-      inl same ↦ same
-    | inr (inl less) ↦ absurd (true≢false (rw (← n_spelled) (m_longest n less n_in)))
-    | inr (inr more) ↦ absurd (true≢false (rw (← m_spelled) (n_longest m more m_in)))
-    ]
+  | inl same ↦ same
+  | inr (inl less) ↦ absurd (true≢false (rw (← n_spelled) (m_longest n less n_in)))
+  | inr (inr more) ↦ absurd (true≢false (rw (← m_spelled) (n_longest m more m_in)))
+]
 
 -- ---- the end of what is spelled
 
@@ -76,9 +75,12 @@ apart_onto text from len (t ∷ tokens) to some within form apart = (gap_onto te
 
 onto_gap : (text : List ℕ) (from len : ℕ) (read : Result (List Token) Stop) → 1 ≤ len → from + len ≤ length text → GapForm (drop from text) len → Spelled text (from + len) read → Spelled text from read
 onto_gap text from len read some within form s = record {
-    tokens = s.tokens; to = s.to; ending = s.ending; is = s.is;
-    spells = record { each = s.spells.each; apart = apart_onto text from len s.tokens s.to some within form s.spells.apart; ends = s.spells.ends };
-  }
+  tokens = s.tokens;
+  to = s.to;
+  ending = s.ending;
+  is = s.is;
+  spells = record { each = s.spells.each; apart = apart_onto text from len s.tokens s.to some within form s.spells.apart; ends = s.spells.ends };
+}
 
 first_result : (t : Token) (tokens : List Token) (to : ℕ) (ending : Option Fault) → with_first t (result_of tokens to ending) ≡ result_of (t ∷ tokens) to ending
 first_result t tokens to None = refl
@@ -89,44 +91,49 @@ within_text text from len inside within = omega (arith, length-drop from text)
 
 stands_token : (text : List ℕ) (from : ℕ) (kind : TokenKind) (len : ℕ) → from ≤ length text → Stands (drop from text) len → TokenForm (drop from text) kind len → IsToken text (token_at text from kind len)
 stands_token text from kind len inside stands form = record {
-    forward = (let some = stands.some in omega arith);
-    within = within_text text from len inside stands.within;
-    form = subst (HasForm kind) (sym (slice_is text from len)) form.form;
-    longest = longest_to text from len form.longest;
-    site = refl;
-  }
+  forward = (let some = stands.some in omega arith);
+  within = within_text text from len inside stands.within;
+  form = subst (HasForm kind) (sym (slice_is text from len)) form.form;
+  longest = longest_to text from len form.longest;
+  site = refl;
+}
 
 onto_token : (text : List ℕ) (from : ℕ) (kind : TokenKind) (len : ℕ) (read : Result (List Token) Stop) → from < length text → Stands (drop from text) len → TokenForm (drop from text) kind len → Solid (drop from text) → Spelled text (from + len) read → Spelled text from (with_first (token_at text from kind len) read)
 onto_token text from kind len read inside stands form solid s = record {
-    tokens = token_at text from kind len ∷ s.tokens; to = s.to; ending = s.ending;
-    is = ap (with_first (token_at text from kind len)) s.is ∙ first_result (token_at text from kind len) s.tokens s.to s.ending;
-    spells = record {
-      each = (stands_token text from kind len (omega arith) stands form, s.spells.each);
-      apart = (gap_none text from (omega arith) (λ _. solid.no_comment), s.spells.apart);
-      ends = s.spells.ends;
-    };
-  }
+  tokens = token_at text from kind len ∷ s.tokens;
+  to = s.to;
+  ending = s.ending;
+  is = ap (with_first (token_at text from kind len)) s.is ∙ first_result (token_at text from kind len) s.tokens s.to s.ending;
+  spells = record {
+    each = (stands_token text from kind len (omega arith) stands form, s.spells.each);
+    apart = (gap_none text from (omega arith) (λ _. solid.no_comment), s.spells.apart);
+    ends = s.spells.ends;
+  };
+}
 
 wrong_fault : (text : List ℕ) (from : ℕ) (f : Fault) → from < length text → WrongForm (drop from text) f → Solid (drop from text) → HasFault text from f
 wrong_fault text from fault.BadByte inside wrong solid = record {
-    within = inside;
-    no_blank = subst (λ b. is_blank b ≡ false) (first_at text from) solid.no_blank;
-    no_token = (let e : from + 0 ≡ from = omega arith in subst (IsLongest text from) e (longest_to text from 0 wrong));
-  }
+  within = inside;
+  no_blank = subst (λ b. is_blank b ≡ false) (first_at text from) solid.no_blank;
+  no_token = (let e : from + 0 ≡ from = omega arith in subst (IsLongest text from) e (longest_to text from 0 wrong));
+}
 wrong_fault text from fault.LongNumber inside wrong solid = record {
-    end = from + wrong.len;
-    forward = (let some = wrong.some in omega arith);
-    within = within_text text from wrong.len (omega arith) wrong.within;
-    digits = subst (λ bytes. is_number bytes ≡ true) (sym (slice_is text from wrong.len)) wrong.digits;
-    longest = longest_to text from wrong.len wrong.longest;
-    above = subst (λ bytes. LARGEST_NUMBER < decimal bytes) (sym (slice_is text from wrong.len)) wrong.above;
-  }
+  end = from + wrong.len;
+  forward = (let some = wrong.some in omega arith);
+  within = within_text text from wrong.len (omega arith) wrong.within;
+  digits = subst (λ bytes. is_number bytes ≡ true) (sym (slice_is text from wrong.len)) wrong.digits;
+  longest = longest_to text from wrong.len wrong.longest;
+  above = subst (λ bytes. LARGEST_NUMBER < decimal bytes) (sym (slice_is text from wrong.len)) wrong.above;
+}
 
 onto_fault : (text : List ℕ) (from : ℕ) (f : Fault) → from < length text → WrongForm (drop from text) f → Solid (drop from text) → Spelled text from (Err (record { place = from; fault = f }))
 onto_fault text from f inside wrong solid = record {
-    tokens = []; to = from; ending = Some f; is = refl;
-    spells = record { each = tt; apart = gap_none text from (omega arith) (λ _. solid.no_comment); ends = wrong_fault text from f inside wrong solid };
-  }
+  tokens = [];
+  to = from;
+  ending = Some f;
+  is = refl;
+  spells = record { each = tt; apart = gap_none text from (omega arith) (λ _. solid.no_comment); ends = wrong_fault text from f inside wrong solid };
+}
 
 newline_form : (z : List ℕ) → is_newline (slice_index z 0) ≡ true → GapForm z 1
 newline_form z h = inl (refl, newline_blank (slice_index z 0) h)
@@ -144,17 +151,20 @@ spelled_on text from (piece.Wrong f) inside means later = onto_fault text from f
 
 at_end : (text : List ℕ) (from : ℕ) → from ≤ length text → length text ≤ from → Spelled text from (reading text from)
 at_end text from within beyond = record {
-    tokens = []; to = from; ending = None; is = reading_end text from beyond;
-    spells = record { each = tt; apart = gap_none text from within (λ inside. absurd (omega arith)); ends = omega arith };
-  }
+  tokens = [];
+  to = from;
+  ending = None;
+  is = reading_end text from beyond;
+  spells = record { each = tt; apart = gap_none text from within (λ inside. absurd (omega arith)); ends = omega arith };
+}
 
 read_spelled : (fuel : ℕ) (text : List ℕ) (from : ℕ) → from ≤ length text → length text - from ≤ fuel → Spelled text from (reading text from)
 read_spelled zero text from within enough = at_end text from within (omega arith)
 read_spelled (suc fuel) text from within enough = elim (cases_lt from (length text)) [
-      inl inside ↦ subst (Spelled text from) (sym (reading_step text from inside))
-        (spelled_on text from (front_piece (drop from text)) inside (piece_means text from inside) (λ len some ends. read_spelled fuel text (from + len) ends (omega arith)))
-    | inr beyond ↦ at_end text from within beyond
-    ]
+  | inl inside ↦ subst (Spelled text from) (sym (reading_step text from inside))
+      (spelled_on text from (front_piece (drop from text)) inside (piece_means text from inside) (λ len some ends. read_spelled fuel text (from + len) ends (omega arith)))
+  | inr beyond ↦ at_end text from within beyond
+]
 
 -- ---- what is spelled is read
 
@@ -178,14 +188,14 @@ record Front (text : List ℕ) (kind : TokenKind) (end place : ℕ) : Type 0 whe
 
 token_front : (text : List ℕ) (t : Token) → IsToken text t → Front text t.kind t.end t.start
 token_front text t token = record {
-    forward = token.forward;
-    end_within = token.within;
-    within = (let within = token.within in omega (arith, length-drop t.start text));
-    form = record {
-      form = token.form;
-      longest = longest_from text t.start t.end (let forward = token.forward in omega arith) token.longest;
-    };
-  }
+  forward = token.forward;
+  end_within = token.within;
+  within = (let within = token.within in omega (arith, length-drop t.start text));
+  form = record {
+    form = token.form;
+    longest = longest_from text t.start t.end (let forward = token.forward in omega arith) token.longest;
+  };
+}
 
 token_no_blank : (text : List ℕ) (t : Token) → IsToken text t → is_blank (slice_index text t.start) ≡ false
 token_no_blank text t token =
@@ -196,13 +206,13 @@ token_no_blank text t token =
 
 long_front : (text : List ℕ) (place : ℕ) → IsLongNumber text place → LongForm (drop place text)
 long_front text place long = record {
-    len = long.end - place;
-    some = (let forward = long.forward in omega arith);
-    within = (let within = long.within in omega (arith, length-drop place text));
-    digits = long.digits;
-    longest = longest_from text place long.end (let forward = long.forward in omega arith) long.longest;
-    above = long.above;
-  }
+  len = long.end - place;
+  some = (let forward = long.forward in omega arith);
+  within = (let within = long.within in omega (arith, length-drop place text));
+  digits = long.digits;
+  longest = longest_from text place long.end (let forward = long.forward in omega arith) long.longest;
+  above = long.above;
+}
 
 fault_no_blank : (text : List ℕ) (place : ℕ) (f : Fault) → HasFault text place f → is_blank (slice_index text place) ≡ false
 fault_no_blank text place fault.BadByte bad = bad.no_blank
@@ -222,9 +232,9 @@ no_token_at_fault text place kind len fault.LongNumber inside some within form l
     let bytes = take len (drop place text) in
     let same = one_length (drop place text) front.len len front.within within (number_spelled (take front.len (drop place text)) front.digits) (spelled kind bytes form.form) front.longest form.longest in
     no_long_token kind bytes
-      (subst (λ n. is_number (take n (drop place text)) ≡ true) same front.digits)
-      (subst (λ n. LARGEST_NUMBER < decimal (take n (drop place text))) same front.above)
-      form.form
+    (subst (λ n. is_number (take n (drop place text)) ≡ true) same front.digits)
+    (subst (λ n. LARGEST_NUMBER < decimal (take n (drop place text))) same front.above)
+    form.form
 
 -- a place has one fault
 one_fault : (text : List ℕ) (place : ℕ) (f g : Fault) → HasFault text place f → HasFault text place g → f ≡ g
@@ -261,17 +271,20 @@ found_is text from kind len t inside stands form token start =
 
 ends_off : (text : List ℕ) (from len : ℕ) (tokens : List Token) (to : ℕ) (ending : Option Fault) → 1 ≤ len → from + len ≤ length text → GapForm (drop from text) len → Ends text from tokens to ending → Ends text (from + len) tokens to ending
 ends_off text from len [] to None some within form e = record {
-    each = e.each; ends = e.ends;
-    apart = gap_off text from len to some within form e.apart (λ inside. absurd (let at = e.ends in omega arith));
-  }
+  each = e.each;
+  ends = e.ends;
+  apart = gap_off text from len to some within form e.apart (λ inside. absurd (let at = e.ends in omega arith));
+}
 ends_off text from len [] to (Some f) some within form e = record {
-    each = e.each; ends = e.ends;
-    apart = gap_off text from len to some within form e.apart (λ inside. fault_no_blank text to f e.ends);
-  }
+  each = e.each;
+  ends = e.ends;
+  apart = gap_off text from len to some within form e.apart (λ inside. fault_no_blank text to f e.ends);
+}
 ends_off text from len (t ∷ tokens) to ending some within form e = record {
-    each = e.each; ends = e.ends;
-    apart = (gap_off text from len t.start some within form e.apart.0 (λ inside. token_no_blank text t e.each.0), e.apart.1);
-  }
+  each = e.each;
+  ends = e.ends;
+  apart = (gap_off text from len t.start some within form e.apart.0 (λ inside. token_no_blank text t e.each.0), e.apart.1);
+}
 
 abbrev Later : List ℕ → ℕ → ℕ → Option Fault → Type 0
 Later text from to ending = (len : ℕ) (tokens : List Token) → 1 ≤ len → from + len ≤ length text → Ends text (from + len) tokens to ending → reading text (from + len) ≡ result_of tokens to ending
@@ -287,8 +300,10 @@ found_on text from kind len (t ∷ tokens) to ending inside stands form solid la
     let same = found_is text from kind len t (omega arith) stands form e.each.0 start in
     let end : t.end ≡ from + len = sym (ap (λ (x : Token). x.end) same) in
     let rest : Ends text (from + len) tokens to ending = record {
-        each = e.each.1; ends = e.ends; apart = subst (λ p. AreApart text p tokens to) end e.apart.1;
-      } in
+      each = e.each.1;
+      ends = e.ends;
+      apart = subst (λ p. AreApart text p tokens to) end e.apart.1;
+    } in
     ap (with_first (token_at text from kind len)) (later len tokens stands.some (within_text text from len (omega arith) stands.within) rest)
     ∙ first_result (token_at text from kind len) tokens to ending
     ∙ ap (λ (x : Token). result_of (x ∷ tokens) to ending) same
@@ -329,11 +344,11 @@ last_read text from (t ∷ tokens) to ending beyond e =
 spelled_read : (fuel : ℕ) (text : List ℕ) (from : ℕ) (tokens : List Token) (to : ℕ) (ending : Option Fault) → length text - from ≤ fuel → Ends text from tokens to ending → reading text from ≡ result_of tokens to ending
 spelled_read zero text from tokens to ending enough e = last_read text from tokens to ending (omega arith) e
 spelled_read (suc fuel) text from tokens to ending enough e = elim (cases_lt from (length text)) [
-      inl inside ↦ reading_step text from inside
-        ∙ read_on text from (front_piece (drop from text)) tokens to ending inside (piece_means text from inside)
-            (λ len tokens some within e. spelled_read fuel text (from + len) tokens to ending (omega arith) e) e
-    | inr beyond ↦ last_read text from tokens to ending beyond e
-    ]
+  | inl inside ↦ reading_step text from inside
+      ∙ read_on text from (front_piece (drop from text)) tokens to ending inside (piece_means text from inside)
+      (λ len tokens some within e. spelled_read fuel text (from + len) tokens to ending (omega arith) e) e
+  | inr beyond ↦ last_read text from tokens to ending beyond e
+]
 
 -- ---- the two say the same
 

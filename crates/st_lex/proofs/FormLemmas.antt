@@ -1,5 +1,5 @@
 -- The bytes of a token have one kind, and none begins with a blank.
-use Rattle.std.proofs.Common.{◌≡◌, ℕ, ◌<◌, ◌≤◌, Bool, true, false, ◌&&◌, ◌||◌, List, [], ◌∷◌, refl, arith}
+use Rattle.std.proofs.Common.{◌≡◌, ℕ, ◌<◌, Bool, true, false, ◌&&◌, ◌||◌, List, [], ◌∷◌, refl, arith}
 use Rattle.std.specs.List.{list_all}
 use Rattle.std.proofs.lemmas.Bool.{true≢false, false≢true, and_parts}
 use Rattle.std.proofs.lemmas.Bool.Decides.{nat_tests}
@@ -60,9 +60,9 @@ spelled Word bytes a = rw a.0 refl
 spelled Key bytes a = rw a.0 refl
 spelled (Number n) bytes a = let number = a.0 in elim (is_name bytes) as (λ t. (t || is_number bytes || is_mark bytes) ≡ true) [ true ↦ refl | false ↦ rw number refl ]
 spelled Mark bytes a = elim (is_name bytes) as (λ t. (t || is_number bytes || is_mark bytes) ≡ true) [
-      true ↦ refl
-    | false ↦ elim (is_number bytes) as (λ t. (t || is_mark bytes) ≡ true) [ true ↦ refl | false ↦ a ]
-    ]
+  | true ↦ refl
+  | false ↦ elim (is_number bytes) as (λ t. (t || is_mark bytes) ≡ true) [ true ↦ refl | false ↦ a ]
+]
 
 pub number_spelled : (bytes : List ℕ) → is_number bytes ≡ true → is_spelling bytes ≡ true
 unfolding is_spelling

@@ -1,5 +1,5 @@
 -- Blanks and comments before a place: gaps grow and shrink by the piece at their front.
-use Rattle.std.proofs.Common.{◌≡◌, ℕ, zero, suc, ◌+◌, ◌-◌, ◌<◌, ◌≤◌, Bool, true, false, not, ◌&&◌, ◌⊎◌, inl, inr, List, [], ◌∷◌, length, take, drop, get_or, refl, ap, sym, ◌∙◌, subst, arith, IsTrue, IsFalse}
+use Rattle.std.proofs.Common.{◌≡◌, ℕ, ◌+◌, ◌-◌, ◌<◌, ◌≤◌, true, false, not, ◌⊎◌, inl, inr, List, [], ◌∷◌, length, drop, get_or, refl, ap, ◌∙◌, subst, arith, IsTrue}
 use Rattle.std.specs.Prelude.{slice_index}
 use Rattle.std.specs.List.{prefix_len}
 use Rattle.std.proofs.lemmas.Bool.{true≢false, false≢true, not-true, and_parts, eqb-true, cases_lt}
@@ -7,7 +7,7 @@ use Rattle.std.proofs.lemmas.List.{get_or-drop, length-drop}
 use Rattle.std.proofs.lemmas.List.Sums.{prefix_len_passes, prefix_len_stops}
 use Rattle.st_lex.specs.Bytes.{is_newline, is_blank, is_comment_byte, opens_comment}
 use Rattle.st_lex.specs.Tokens.{InComment, IsGap}
-use Rattle.st_lex.proofs.PieceLemmas.{Stands, GapForm, Solid}
+use Rattle.st_lex.proofs.PieceLemmas.{GapForm, Solid}
 
 -- a byte of the rest of a text
 pub byte_at : (text : List ℕ) (place k : ℕ) → place ≤ k → slice_index (drop place text) (k - place) ≡ slice_index text k
@@ -29,8 +29,12 @@ no_blank_opens (a ∷ b ∷ z) opens blank =
 -- a comment that began later began earlier, too
 weaker : {text : List ℕ} (from later place : ℕ) → from ≤ later → InComment text later place → InComment text from place
 weaker from later place before c = record {
-    start = c.start; after = (let after = c.after in omega arith); before = c.before; opens = c.opens; open_still = c.open_still;
-  }
+  start = c.start;
+  after = (let after = c.after in omega arith);
+  before = c.before;
+  opens = c.opens;
+  open_still = c.open_still;
+}
 
 -- the bytes of a comment at the front
 in_run : (text : List ℕ) (place len k : ℕ) → len ≡ prefix_len is_comment_byte (drop place text) → place ≤ k → k < place + len → is_newline (slice_index text k) ≡ false
@@ -45,8 +49,8 @@ after_run text place len run within =
     let short : prefix_len is_comment_byte (drop place text) < length (drop place text) = omega (arith, length-drop place text) in
     let stops = prefix_len_stops is_comment_byte (drop place text) 0 short in
     let here : slice_index (drop place text) (prefix_len is_comment_byte (drop place text)) ≡ slice_index text (place + len) =
-        (let e : prefix_len is_comment_byte (drop place text) ≡ place + len - place = omega arith in
-         ap (λ n. get_or (drop place text) n 0) e ∙ byte_at text place (place + len) (omega arith)) in
+    (let e : prefix_len is_comment_byte (drop place text) ≡ place + len - place = omega arith in
+    ap (λ n. get_or (drop place text) n 0) e ∙ byte_at text place (place + len) (omega arith)) in
     let ends : is_comment_byte (slice_index text (place + len)) ≡ false = subst (λ b. is_comment_byte b ≡ false) here stops in
     newline (slice_index text (place + len)) ends
   where
@@ -56,14 +60,14 @@ after_run text place len run within =
 -- no gap
 pub gap_none : (text : List ℕ) (place : ℕ) → place ≤ length text → (place < length text → opens_comment (drop place text) ≡ false) → IsGap text place place
 gap_none text place within closed = record {
-    forward = omega arith;
-    within = within;
-    filled = λ k from below. absurd (omega arith);
-    closed = λ inside c.
+  forward = omega arith;
+  within = within;
+  filled = λ k from below. absurd (omega arith);
+  closed = λ inside c.
       (let after = c.after in let before = c.before in
-       let e : c.start ≡ place = omega arith in
-       true≢false (rw (← c.opens) (rw e (closed inside))));
-  }
+      let e : c.start ≡ place = omega arith in
+      true≢false (rw (← c.opens) (rw e (closed inside))));
+}
 
 -- where a gap is no gap, since its first byte is no blank and begins no comment
 pub gap_ends : (text : List ℕ) (from to : ℕ) → Solid (drop from text) → IsGap text from to → to ≡ from
@@ -75,6 +79,7 @@ gap_ends text from to solid gap = stop (cases_lt from to)
         let after = c.after in let before = c.before in
         let e : c.start ≡ from = omega arith in
         true≢false (rw (← c.opens) (rw e solid.no_comment))
+
     stop : (from < to) ⊎ (to ≤ from) → to ≡ from
     stop (inl below) = absurd (begins below (gap.filled from (omega arith) below))
     stop (inr above) = let forward = gap.forward in omega arith
@@ -106,24 +111,27 @@ module _ (text : List ℕ) (from len to : ℕ) (some : 1 ≤ len) (within : from
       let e : from ≡ place = omega arith in
       inl (subst (λ p. is_blank (slice_index text p) ≡ true) e (rw (← first_at text from) blank.1))
   front_filled (inr comment) place begun below = inr (record {
-      start = from; after = omega arith; before = begun; opens = comment.1;
-      open_still = λ k above up_to. in_run text from len k comment.0 above (omega arith);
-    })
+    start = from;
+    after = omega arith;
+    before = begun;
+    opens = comment.1;
+    open_still = λ k above up_to. in_run text from len k comment.0 above (omega arith);
+  })
 
   pub gap_onto : GapForm (drop from text) len → IsGap text (from + len) to → IsGap text from to
   gap_onto form gap = record {
-      forward = (let forward = gap.forward in omega arith);
-      within = gap.within;
-      filled = λ place begun below. by_place place begun below (cases_lt place (from + len));
-      closed = λ inside c. gap.closed inside (later form to gap.forward inside c);
-    }
+    forward = (let forward = gap.forward in omega arith);
+    within = gap.within;
+    filled = λ place begun below. by_place place begun below (cases_lt place (from + len));
+    closed = λ inside c. gap.closed inside (later form to gap.forward inside c);
+  }
     where
       by_place : (place : ℕ) → from ≤ place → place < to → (place < from + len) ⊎ (from + len ≤ place) → IsTrue (is_blank (slice_index text place)) ⊎ InComment text from place
       by_place place begun below (inl early) = front_filled form place begun early
       by_place place begun below (inr late) = elim (gap.filled place late below) [
-            inl blank ↦ inl blank
-          | inr c ↦ inr (weaker from (from + len) place (omega arith) c)
-          ]
+        | inl blank ↦ inl blank
+        | inr c ↦ inr (weaker from (from + len) place (omega arith) c)
+      ]
 
   -- the gap goes on past the front
   reaches : GapForm (drop from text) len → IsGap text from to → (to < length text → is_blank (slice_index text to) ≡ false) → from + len ≤ to
@@ -132,17 +140,18 @@ module _ (text : List ℕ) (from len to : ℕ) (some : 1 ≤ len) (within : from
       early : to < from + len → IsTrue (is_blank (slice_index text to)) ⊎ InComment text from to → ⊥
       early short (inl blank) = true≢false (rw (← blank) (begins (omega arith)))
       early short (inr c) = gap.closed (omega arith) c
+
       by_end : (to < from + len) ⊎ (from + len ≤ to) → from + len ≤ to
       by_end (inl short) = absurd (early short (front_filled form to gap.forward short))
       by_end (inr enough) = enough
 
   pub gap_off : GapForm (drop from text) len → IsGap text from to → (to < length text → is_blank (slice_index text to) ≡ false) → IsGap text (from + len) to
   gap_off form gap begins = record {
-      forward = reaches form gap begins;
-      within = gap.within;
-      filled = λ place begun below. (elim (gap.filled place (omega arith) below) [
-            inl blank ↦ inl blank
-          | inr c ↦ inr (later form place begun (let within = gap.within in omega arith) c)
-          ]);
-      closed = λ inside c. gap.closed inside (weaker from (from + len) to (omega arith) c);
-    }
+    forward = reaches form gap begins;
+    within = gap.within;
+    filled = λ place begun below. (elim (gap.filled place (omega arith) below) [
+      | inl blank ↦ inl blank
+      | inr c ↦ inr (later form place begun (let within = gap.within in omega arith) c)
+    ]);
+    closed = λ inside c. gap.closed inside (weaker from (from + len) to (omega arith) c);
+  }

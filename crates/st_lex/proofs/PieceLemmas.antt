@@ -1,9 +1,9 @@
 -- What the piece at the front of a text means, in the words of the definition of tokens.
-use Rattle.std.proofs.Common.{◌≡◌, ℕ, zero, suc, ◌+◌, ◌-◌, ◌<◌, ◌≤◌, Bool, true, false, not, ◌&&◌, ◌||◌, ◌⊎◌, inl, inr, List, [], ◌∷◌, length, take, drop, refl, ap, sym, ◌∙◌, arith, IsTrue, IsFalse, pos}
-use Rattle.std.specs.Prelude.{◌==◌, nat_le, slice_index, if◌then◌else◌}
+use Rattle.std.proofs.Common.{◌≡◌, ℕ, zero, suc, ◌<◌, ◌≤◌, Bool, true, false, not, ◌⊎◌, inl, inr, List, [], ◌∷◌, length, take, refl, arith, pos}
+use Rattle.std.specs.Prelude.{nat_le, slice_index, if◌then◌else◌}
 use Rattle.std.specs.List.{prefix_len, list_all}
 use Rattle.std.proofs.Math.Numerals.{one-add}
-use Rattle.std.proofs.lemmas.Bool.{true≢false, false≢true, and_parts, and_from, or_cases, eqb-true, leb-true, leb-false}
+use Rattle.std.proofs.lemmas.Bool.{true≢false, and_parts, and_from, leb-true, leb-false}
 use Rattle.std.proofs.lemmas.Bool.Decides.{nat_tests}
 use Rattle.std.proofs.lemmas.List.Sums.{prefix_len-le-length}
 use Rattle.std.proofs.lemmas.List.Folds.{length-prefix_len}
@@ -114,10 +114,10 @@ run_some p b z h = rw h (omega arith)
 
 run_stands : (p : ℕ → Bool) → ((x : ℕ) → p x ≡ true → is_comment_byte x ≡ true) → (b : ℕ) (z : List ℕ) → p b ≡ true → Stands (b ∷ z) (prefix_len p (b ∷ z))
 run_stands p flat b z h = record {
-    some = run_some p b z h;
-    within = prefix_len-le-length p (b ∷ z);
-    flat = all_weaker p is_comment_byte flat (take (prefix_len p (b ∷ z)) (b ∷ z)) (run_passes p (b ∷ z));
-  }
+  some = run_some p b z h;
+  within = prefix_len-le-length p (b ∷ z);
+  flat = all_weaker p is_comment_byte flat (take (prefix_len p (b ∷ z)) (b ∷ z)) (run_passes p (b ∷ z));
+}
 
 -- a run is spelled by its test, and a longer slice is not
 run_first : (p : ℕ → Bool) (b : ℕ) (z : List ℕ) → p b ≡ true → (n : ℕ) × (prefix_len p (b ∷ z) ≡ suc n) × (list_all p (take n z) ≡ true)
@@ -137,10 +137,10 @@ name_longest : (b : ℕ) (z : List ℕ) → is_letter b ≡ true → NoLonger (b
 name_longest b z h zero longer within = absurd (omega arith)
 name_longest b z h (suc more) longer within =
     let no_run : is_name (b ∷ take more z) ≡ false = no (is_name (b ∷ take more z)) (λ named.
-        let parts = and_parts (is_letter b) (list_all is_name_byte (take more z)) named in
-        let passes = and_from (is_name_byte b) (list_all is_name_byte (take more z)) (letter_continues b h) parts.1 in
-        let bound : suc more ≤ prefix_len is_name_byte (b ∷ z) = run_longest is_name_byte (b ∷ z) (suc more) within passes in
-        omega arith) in
+    let parts = and_parts (is_letter b) (list_all is_name_byte (take more z)) named in
+    let passes = and_from (is_name_byte b) (list_all is_name_byte (take more z)) (letter_continues b h) parts.1 in
+    let bound : suc more ≤ prefix_len is_name_byte (b ∷ z) = run_longest is_name_byte (b ∷ z) (suc more) within passes in
+    omega arith) in
     no_spelling (b ∷ take more z) no_run (no_number b z (suc more) (letter_apart b h).0) (no_mark b z (suc more) (letter_other b h))
 
 word_means : (b : ℕ) (z : List ℕ) → Solid (b ∷ z) → is_letter b ≡ true → Means (b ∷ z) (word_piece (take (prefix_len is_name_byte (b ∷ z)) (b ∷ z)))
@@ -150,11 +150,14 @@ word_means b z solid h =
     let bytes = take run (b ∷ z) in
     let len : length bytes ≡ run = length-prefix_len is_name_byte (b ∷ z) in
     let named = name_spelled b z h in
-    rw len (run_stands is_name_byte name_flat b z (letter_continues b h),
+    rw len (
+      run_stands is_name_byte name_flat b z (letter_continues b h),
       record {
         form = chosen (λ k. HasForm k bytes) (is_keyword bytes) kind.Key kind.Word (λ e. (named, e)) (λ e. (named, e));
         longest = name_longest b z h;
-      }, solid)
+      },
+      solid,
+    )
 
 -- ---- numbers
 
@@ -167,8 +170,8 @@ number_longest : (b : ℕ) (z : List ℕ) → is_digit b ≡ true → NoLonger (
 number_longest b z h zero longer within = absurd (omega arith)
 number_longest b z h (suc more) longer within =
     let no_run : is_number (b ∷ take more z) ≡ false = no (is_number (b ∷ take more z)) (λ passes.
-        let bound : suc more ≤ prefix_len is_digit (b ∷ z) = run_longest is_digit (b ∷ z) (suc more) within passes in
-        omega arith) in
+    let bound : suc more ≤ prefix_len is_digit (b ∷ z) = run_longest is_digit (b ∷ z) (suc more) within passes in
+    omega arith) in
     no_spelling (b ∷ take more z) (no_name b z (suc more) (digit_apart b h).0) no_run (no_mark b z (suc more) (digit_other b h))
 
 number_means : (b : ℕ) (z : List ℕ) → Solid (b ∷ z) → is_digit b ≡ true → Means (b ∷ z) (number_piece (take (prefix_len is_digit (b ∷ z)) (b ∷ z)))
@@ -180,11 +183,18 @@ number_means b z solid h =
     let spelled = number_spelled b z h in
     let stands = run_stands is_digit digit_flat b z h in
     rw len (chosen (Means (b ∷ z)) (nat_le (decimal digits) LARGEST_NUMBER) (piece.Found (kind.Number (pos (decimal digits))) run) (piece.Wrong fault.LongNumber)
-      (λ e. (stands, record { form = (spelled, refl, leb-true (decimal digits) LARGEST_NUMBER e); longest = number_longest b z h }, solid))
-      (λ e. (record {
-          len = run; some = stands.some; within = stands.within; digits = spelled;
-          longest = number_longest b z h; above = leb-false (decimal digits) LARGEST_NUMBER e;
-        }, solid)))
+    (λ e. (stands, record { form = (spelled, refl, leb-true (decimal digits) LARGEST_NUMBER e); longest = number_longest b z h }, solid))
+    (λ e. (
+      record {
+        len = run;
+        some = stands.some;
+        within = stands.within;
+        digits = spelled;
+        longest = number_longest b z h;
+        above = leb-false (decimal digits) LARGEST_NUMBER e;
+      },
+      solid,
+    )))
 
 -- ---- marks
 
@@ -220,17 +230,18 @@ newline_blank b h = grind (arith, nat_tests)
 
 single_flat : (b : ℕ) → is_single_mark b ≡ true → is_comment_byte b ≡ true
 single_flat b h = elim (is_newline b) as (λ t. is_newline b ≡ t → not t ≡ true) [
-      true ↦ λ e. absurd (true≢false (rw (← h) (single_no b (blank_other b (newline_blank b e)))))
-    | false ↦ λ e. refl
-    ] refl
+  | true ↦ λ e. absurd (true≢false (rw (← h) (single_no b (blank_other b (newline_blank b e)))))
+  | false ↦ λ e. refl
+] refl
 
 comment_byte : (b : ℕ) → (is_newline b ≡ true → ⊥) → is_comment_byte b ≡ true
 comment_byte b h = rw (no (is_newline b) h) refl
 
 double_flat : (a b : ℕ) → is_double_mark a b ≡ true → (is_comment_byte a ≡ true) × (is_comment_byte b ≡ true)
 double_flat a b h = (
-    comment_byte a (λ e. true≢false (rw (← h) (double_no a b (blank_other a (newline_blank a e))))),
-    comment_byte b (λ e. true≢false (rw (← h) (second_no a b e))))
+  comment_byte a (λ e. true≢false (rw (← h) (double_no a b (blank_other a (newline_blank a e))))),
+  comment_byte b (λ e. true≢false (rw (← h) (second_no a b e))),
+)
 
 one_stands : (b : ℕ) (z : List ℕ) → is_comment_byte b ≡ true → Stands (b ∷ z) 1
 one_stands b z h = record { some = omega arith; within = omega arith; flat = rw h refl }
@@ -245,9 +256,11 @@ mark_means : (b : ℕ) (z : List ℕ) → Solid (b ∷ z) → IsMarkLike b → M
 unfolding Means
 mark_means b [] solid like = single_means b [] solid like (λ m more within. absurd (omega arith))
 mark_means b (c ∷ z) solid like = chosen (Means (b ∷ c ∷ z)) (is_double_mark b c) (piece.Found kind.Mark 2) (if is_single_mark b then piece.Found kind.Mark 1 else piece.Wrong fault.BadByte)
-    (λ e. let flat = double_flat b c e in
-      (record { some = omega arith; within = omega arith; flat = rw (flat.0, flat.1) refl },
-       record { form = e; longest = λ m more within. mark_longest b (c ∷ z) m like.0 like.1 (no_long_mark b (c ∷ z) m more within) }, solid))
+    (λ e. let flat = double_flat b c e in (
+      record { some = omega arith; within = omega arith; flat = rw (flat.0, flat.1) refl },
+      record { form = e; longest = λ m more within. mark_longest b (c ∷ z) m like.0 like.1 (no_long_mark b (c ∷ z) m more within) },
+      solid,
+    ))
     (λ e. single_means b (c ∷ z) solid like (λ m more within. no_two b c z m e more within))
 
 -- ---- blanks and comments
@@ -259,22 +272,22 @@ token_means : (b : ℕ) (z : List ℕ) → Solid (b ∷ z) → Means (b ∷ z) (
 unfolding token_piece
 token_means b z solid =
     chosen (Means (b ∷ z)) (is_letter b) (word_piece (take (prefix_len is_name_byte (b ∷ z)) (b ∷ z)))
-      (if is_digit b then number_piece (take (prefix_len is_digit (b ∷ z)) (b ∷ z)) else mark_piece (b ∷ z))
-      (λ letter. word_means b z solid letter)
-      (λ no_letter. chosen (Means (b ∷ z)) (is_digit b) (number_piece (take (prefix_len is_digit (b ∷ z)) (b ∷ z))) (mark_piece (b ∷ z))
-        (λ digit. number_means b z solid digit)
-        (λ no_digit. mark_means b z solid (no_letter, no_digit)))
+    (if is_digit b then number_piece (take (prefix_len is_digit (b ∷ z)) (b ∷ z)) else mark_piece (b ∷ z))
+    (λ letter. word_means b z solid letter)
+    (λ no_letter. chosen (Means (b ∷ z)) (is_digit b) (number_piece (take (prefix_len is_digit (b ∷ z)) (b ∷ z))) (mark_piece (b ∷ z))
+    (λ digit. number_means b z solid digit)
+    (λ no_digit. mark_means b z solid (no_letter, no_digit)))
 
 -- the piece at the front of a text that is not empty means what it says
 pub front_means : (b : ℕ) (z : List ℕ) → Means (b ∷ z) (front_piece (b ∷ z))
 unfolding front_piece Means
 front_means b z =
     chosen (Means (b ∷ z)) (is_newline b) piece.Newline
-      (if is_blank b then piece.Gap 1 else (if opens_comment (b ∷ z) then piece.Gap (prefix_len is_comment_byte (b ∷ z)) else token_piece (b ∷ z)))
-      (λ newline. newline)
-      (λ no_newline. chosen (Means (b ∷ z)) (is_blank b) (piece.Gap 1)
-        (if opens_comment (b ∷ z) then piece.Gap (prefix_len is_comment_byte (b ∷ z)) else token_piece (b ∷ z))
-        (λ blank. (one_stands b z (rw no_newline refl), inl (refl, blank)))
-        (λ no_blank. chosen (Means (b ∷ z)) (opens_comment (b ∷ z)) (piece.Gap (prefix_len is_comment_byte (b ∷ z))) (token_piece (b ∷ z))
-          (λ opens. (comment_stands b z no_newline, inr (refl, opens)))
-          (λ closed. token_means b z (record { no_blank = no_blank; no_comment = closed }))))
+    (if is_blank b then piece.Gap 1 else (if opens_comment (b ∷ z) then piece.Gap (prefix_len is_comment_byte (b ∷ z)) else token_piece (b ∷ z)))
+    (λ newline. newline)
+    (λ no_newline. chosen (Means (b ∷ z)) (is_blank b) (piece.Gap 1)
+    (if opens_comment (b ∷ z) then piece.Gap (prefix_len is_comment_byte (b ∷ z)) else token_piece (b ∷ z))
+    (λ blank. (one_stands b z (rw no_newline refl), inl (refl, blank)))
+    (λ no_blank. chosen (Means (b ∷ z)) (opens_comment (b ∷ z)) (piece.Gap (prefix_len is_comment_byte (b ∷ z))) (token_piece (b ∷ z))
+    (λ opens. (comment_stands b z no_newline, inr (refl, opens)))
+    (λ closed. token_means b z (record { no_blank = no_blank; no_comment = closed }))))

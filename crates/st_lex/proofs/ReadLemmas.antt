@@ -1,10 +1,8 @@
 -- Reading a text, a piece at a time.
-use Rattle.std.proofs.Common.{◌≡◌, ℕ, zero, suc, ◌+◌, ◌-◌, ◌<◌, ◌≤◌, Bool, true, false, List, [], ◌∷◌, ◌++◌, length, take, drop, get_or, refl, ap, sym, ◌∙◌, subst, arith, append_assoc}
+use Rattle.std.proofs.Common.{◌≡◌, ℕ, zero, suc, ◌+◌, ◌-◌, ◌<◌, ◌≤◌, List, [], ◌∷◌, ◌++◌, length, drop, get_or, refl, ap, sym, ◌∙◌, subst, arith, append_assoc}
 use Rattle.std.specs.Prelude.{Result, Ok, Err}
 use Rattle.std.proofs.lemmas.List.{drop_more, drop_all, drop-drop}
 use Rattle.st_lex.specs.declared.kinds.Token.{Token}
-use Rattle.st_lex.specs.declared.kinds.TokenKind.{TokenKind}
-use Rattle.st_lex.specs.declared.faults.Fault.{Fault}
 use Rattle.st_lex.specs.declared.pieces.Piece.{Piece}
 use Rattle.st_lex.specs.declared.pieces.Piece.TheVariants as piece
 use Rattle.st_lex.specs.Reading.{Stop, front_piece, token_at, with_first, reads_on, read_rest, read_tokens}
@@ -60,7 +58,7 @@ reading_step text place within =
     opened text place (get_or text place 0) (drop (place + 1) text) cells
     ∙ ap (λ z. reads_on text place (front_piece z) (λ len. read_rest text (len - 1) (place + 1) (drop (place + 1) text))) (sym cells)
     ∙ same_on text place (drop place text) (front_piece (drop place text)) (λ len. read_rest text (len - 1) (place + 1) (drop (place + 1) text)) (λ len. reading text (place + len))
-        (piece_means text place within) (rest_after text place)
+    (piece_means text place within) (rest_after text place)
 
 -- tokens before what is read
 abbrev pub with_front : List Token → Result (List Token) Stop → Result (List Token) Stop

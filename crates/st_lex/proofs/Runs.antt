@@ -1,8 +1,8 @@
 -- The longest run at the front of a list whose elements pass a test, and lists all of whose elements pass.
-use Rattle.std.proofs.Common.{◌*◌, ◌≡◌, ℕ, zero, suc, ◌+◌, ◌-◌, ◌<◌, ◌≤◌, Bool, true, false, not, cond, ◌&&◌, ◌||◌, eqb, List, [], ◌∷◌, ◌++◌, length, take, drop, get_or, refl, ap, sym, ◌∙◌, arith, fold, IsTrue, IsFalse}
+use Rattle.std.proofs.Common.{◌*◌, ◌≡◌, ℕ, zero, suc, ◌+◌, ◌-◌, ◌≤◌, Bool, true, false, cond, List, [], ◌∷◌, length, take, refl, arith, fold}
 use Rattle.std.proofs.Math.Numerals.{one-add}
-use Rattle.std.proofs.lemmas.Bool.{false≢true, true≢false, and_parts, and_from}
-use Rattle.std.specs.List.{prefix_len, list_all, list_any}
+use Rattle.std.proofs.lemmas.Bool.{and_parts, and_from}
+use Rattle.std.specs.List.{prefix_len, list_all}
 
 -- a value by a test, with how the test went
 pub chosen : {A : Type 0} (P : A → Type 0) (b : Bool) (x y : A) → (b ≡ true → P x) → (b ≡ false → P y) → P (cond b x y)
@@ -18,8 +18,8 @@ pub run_passes : {X : Type 0} (p : X → Bool) (xs : List X) → list_all p (tak
 run_passes p [] = refl
 run_passes p (x ∷ xs) =
     elim (p x) as (λ b. p x ≡ b → list_all p (take (cond b (1 + prefix_len p xs) 0) (x ∷ xs)) ≡ true) [
-      true ↦ λ h. rw (one-add (prefix_len p xs)) (rw (h, run_passes p xs) refl)
-    | false ↦ λ h. refl
+      | true ↦ λ h. rw (one-add (prefix_len p xs)) (rw (h, run_passes p xs) refl)
+      | false ↦ λ h. refl
     ] refl
 
 -- no more elements from the front pass

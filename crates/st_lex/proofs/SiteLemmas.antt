@@ -1,12 +1,9 @@
 -- The site of the place after a newline, and after bytes of one line.
-use Rattle.std.proofs.Common.{◌≡◌, ℕ, zero, suc, ◌+◌, ◌-◌, ◌<◌, ◌≤◌, Bool, true, false, not, ◌&&◌, List, [], ◌∷◌, length, take, drop, get_or, refl, ap, sym, ◌∙◌, arith}
-use Rattle.std.specs.Prelude.{count_by, reverse}
+use Rattle.std.proofs.Common.{◌≡◌, ℕ, zero, suc, ◌+◌, ◌-◌, ◌<◌, ◌≤◌, true, false, List, ◌∷◌, length, take, drop, get_or, refl, ap, ◌∙◌, arith}
 use Rattle.std.specs.List.{suffix_len, after_last, list_all}
-use Rattle.std.proofs.Math.Numerals.{add-one}
 use Rattle.std.proofs.lemmas.Bool.{and_parts, not-true}
-use Rattle.std.proofs.lemmas.List.{length-drop, drop_more, drop-drop}
+use Rattle.std.proofs.lemmas.List.{length-drop, drop_more}
 use Rattle.std.proofs.lemmas.List.Sums.{suffix_len-le-length, suffix_len-take_yes, suffix_len-take_no, count_by_more_yes, count_by_more_no}
-use Rattle.st_events.specs.declared.events.Site.{Site}
 use Rattle.st_lex.specs.Bytes.{is_newline, is_comment_byte}
 use Rattle.st_lex.specs.Sites.{line_of, column_of, site_of}
 
@@ -45,8 +42,13 @@ line_flat text place within flat = omega (arith, count_by_more_no is_newline tex
 column_flat : (text : List ℕ) (place : ℕ) → place < length text → is_comment_byte (get_or text place 0) ≡ true → column_of text (place + 1) ≡ column_of text place + 1
 column_flat text place within flat =
     let goes : is_comment_byte (get_or text (place + 1 - 1) 0) ≡ true = rw (at_back text place) flat in
-    omega (arith, column_is text (place + 1), column_is text place, last_back text place,
-      suffix_len-take_yes is_comment_byte text (place + 1) 0 (omega arith) (omega arith) goes)
+    omega (
+      arith,
+      column_is text (place + 1),
+      column_is text place,
+      last_back text place,
+      suffix_len-take_yes is_comment_byte text (place + 1) 0 (omega arith) (omega arith) goes,
+    )
 
 abbrev Moves : List ℕ → ℕ → ℕ → Type 0
 Moves text place len = (line_of text (place + len) ≡ line_of text place) × (column_of text (place + len) ≡ column_of text place + len)
@@ -62,6 +64,7 @@ site_flat text place (suc len) within flat =
     let flat' : list_all is_comment_byte (take (suc len) (get_or text place 0 ∷ drop (place + 1) text)) ≡ true = rw cells at flat in
     let parts = and_parts (is_comment_byte (get_or text place 0)) (list_all is_comment_byte (take len (drop (place + 1) text))) flat' in
     let rest : Moves text (place + 1) len = site_flat text (place + 1) len (omega arith) parts.1 in
-    let e : place + suc len ≡ place + 1 + len = omega arith in
-    (ap (line_of text) e ∙ rest.0 ∙ line_flat text place here parts.0,
-     ap (column_of text) e ∙ rest.1 ∙ (let one = column_flat text place here parts.0 in omega arith))
+    let e : place + suc len ≡ place + 1 + len = omega arith in (
+      ap (line_of text) e ∙ rest.0 ∙ line_flat text place here parts.0,
+      ap (column_of text) e ∙ rest.1 ∙ (let one = column_flat text place here parts.0 in omega arith),
+    )

@@ -1,11 +1,11 @@
 -- The marks, against the classes of bytes.
-use Rattle.std.proofs.Common.{◌≡◌, ℕ, Bool, true, false, not, ◌&&◌, ◌||◌, List, [], ◌∷◌, refl, arith}
+use Rattle.std.proofs.Common.{◌≡◌, ℕ, Bool, true, false, not, ◌&&◌, ◌||◌, List, [], ◌∷◌, refl}
 use Rattle.std.specs.Prelude.{◌==◌, nat_eq, slice_index}
 use Rattle.std.specs.List.{list_all, list_any}
 use Rattle.std.specs.Str.{bytes_eq}
 use Rattle.std.proofs.lemmas.Bool.{true≢false, and_parts, not-true, eqb-true}
 use Rattle.st_lex.specs.declared.words.TheConstants.{SINGLE_MARKS, DOUBLE_MARKS}
-use Rattle.st_lex.specs.Bytes.{is_newline, is_blank, is_letter, is_digit, is_comment_byte}
+use Rattle.st_lex.specs.Bytes.{is_newline, is_blank, is_letter, is_digit}
 use Rattle.st_lex.specs.Spellings.{is_single_mark, is_double_mark}
 use Rattle.st_lex.proofs.Runs.{no}
 

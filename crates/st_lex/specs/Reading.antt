@@ -1,5 +1,5 @@
 -- Reading a text from the front, piece by piece. `proofs/Exact.antt` shows that this reads what `Tokens` defines.
-use Rattle.std.specs.Prelude.{ℕ, zero, suc, ◌+◌, ◌-◌, Bool, if◌then◌else◌, nat_le, List, [], ◌∷◌, length, take, slice_index, pos, Result, Ok, Err}
+use Rattle.std.specs.Prelude.{ℕ, zero, suc, ◌+◌, ◌-◌, if◌then◌else◌, nat_le, List, [], ◌∷◌, length, take, slice_index, pos, Result, Ok, Err}
 use Rattle.std.specs.List.{prefix_len}
 use Rattle.st_lex.specs.declared.kinds.Token.{Token}
 use Rattle.st_lex.specs.declared.kinds.TokenKind.{TokenKind}
@@ -68,10 +68,6 @@ read_rest text left place [] = Ok []
 read_rest text (suc left) place (b ∷ z) = read_rest text left (place + 1) z
 read_rest text zero place (b ∷ z) =
     reads_on text place (front_piece (b ∷ z)) (λ len. read_rest text (len - 1) (place + 1) z)
-
--- the tokens of a text from a place on
-unfoldable pub read_from : List ℕ → ℕ → List ℕ → Result (List Token) Stop
-read_from text = read_rest text 0
 
 -- the tokens of a text, or the first place that is no token
 unfoldable pub read_tokens : List ℕ → Result (List Token) Stop

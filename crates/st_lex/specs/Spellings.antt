@@ -1,5 +1,5 @@
 -- Which bytes are a name, a keyword, a number or a mark.
-use Rattle.std.specs.Prelude.{◌≡◌, ℕ, ◌+◌, ◌-◌, ◌*◌, ◌≤◌, Bool, true, false, IsTrue, IsFalse, ◌&&◌, ◌||◌, ◌==◌, nat_eq, List, [], ◌∷◌, fold, pos}
+use Rattle.std.specs.Prelude.{◌≡◌, ℕ, ◌+◌, ◌-◌, ◌*◌, ◌≤◌, Bool, false, IsTrue, IsFalse, ◌&&◌, ◌||◌, ◌==◌, List, [], ◌∷◌, fold, pos}
 use Rattle.std.specs.List.{list_any, list_all}
 use Rattle.std.specs.Str.{bytes_eq}
 use Rattle.st_lex.specs.declared.kinds.TokenKind.{TokenKind}

@@ -1,5 +1,5 @@
 -- The tokens of a text, and the first place that is no token. Places are numbers of bytes, from 0.
-use Rattle.std.specs.Prelude.{◌≡◌, ◌≢◌, ℕ, ◌<◌, ◌≤◌, IsTrue, IsFalse, ◌⊎◌, List, [], ◌∷◌, length, drop, slice_index, slice_range}
+use Rattle.std.specs.Prelude.{◌≡◌, ℕ, ◌<◌, ◌≤◌, IsTrue, IsFalse, ◌⊎◌, List, [], ◌∷◌, length, drop, slice_index, slice_range}
 use Rattle.std.specs.List.{AllByRecursion}
 use Rattle.st_lex.specs.declared.kinds.Token.{Token}
 use Rattle.st_lex.specs.declared.faults.Fault.{Fault}

@@ -9,6 +9,7 @@ use st_events::Site;
 pub struct Cursor {
     /// How many bytes stand before it.
     pub place: usize,
+    /// Its line and column.
     pub site: Site,
 }
 

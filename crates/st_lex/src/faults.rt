@@ -14,13 +14,13 @@ pub enum LexError {
     #[error("out of memory")]
     Memory,
     /// A byte that is no blank and begins no comment and no token; a single `&` or `|` is one.
-    #[error("{line}:{column}: bad byte", line = .at.line, column = .at.column)]
+    #[error("{line}:{column} bad byte", line = .at.line, column = .at.column)]
     BadByte {
         /// The site of the byte.
         at: Site,
     },
     /// A number above the largest that a text may name.
-    #[error("{line}:{column}: long number", line = .at.line, column = .at.column)]
+    #[error("{line}:{column} long number", line = .at.line, column = .at.column)]
     LongNumber {
         /// The site of its first digit.
         at: Site,

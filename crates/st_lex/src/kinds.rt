@@ -18,6 +18,7 @@ pub enum TokenKind {
 /// A token of a text: the bytes from place `start` up to `end`, places from 0.
 #[derive(Clone, Copy, Debug, PartialEq, Eq)]
 pub struct Token {
+    /// What it is.
     pub kind: TokenKind,
     /// The place of its first byte.
     pub start: u32,

@@ -14,6 +14,9 @@ use crate::pieces::{Piece, front_piece};
 use std::alloc::Global;
 
 /// The tokens of a source text of at most `MOST_SOURCE_BYTES` bytes, in order.
+///
+/// `BadByte` and `LongNumber` tell the first place that is no token: a byte with which none begins, or the first
+/// digit of a number above `LARGEST_NUMBER`. `Memory` comes where memory was refused.
 pub fn tokens(alloc: Global, text: &[u8]) -> Result<Vec<Token>, LexError>
     requires { length text.now ≤ MOST_SOURCE_BYTES }
     ensures tokens { IfOk result (λ list. IsTokensOf text.now list.items) }
@@ -25,6 +28,7 @@ pub fn tokens(alloc: Global, text: &[u8]) -> Result<Vec<Token>, LexError>
     read_all(alloc, text)
 }
 
+/// Reads the text piece by piece. Each byte is looked at a bounded number of times.
 fn read_all(alloc: Global, text: &[u8]) -> Result<Vec<Token>, LexError>
     requires { length text.now ≤ MOST_SOURCE_BYTES }
     ensures { Gives (λ list. list.items) text.now result (read_tokens text.now) }

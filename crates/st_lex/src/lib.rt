@@ -6,6 +6,7 @@ mod bytes;
 mod cursors;
 mod faults;
 mod kinds;
+mod laws;
 mod lexer;
 mod limits;
 mod numbers;
@@ -14,5 +15,9 @@ mod words;
 
 pub use faults::LexError;
 pub use kinds::{Token, TokenKind};
+pub use laws::{neighbours, one_reading};
 pub use lexer::tokens;
 pub use limits::{LARGEST_NUMBER, MOST_SOURCE_BYTES};
+
+#[cfg(test)]
+mod tests;

@@ -43,6 +43,7 @@ pub fn front_piece(text: &[u8]) -> Piece
     }
 }
 
+/// The token at the front of a text, where no blank and no comment stands there.
 #[tactic(auto, using(crate::proofs::Runs::run_passes), unfolding(crate::specs::Reading::token_piece))]
 fn token_piece(text: &[u8]) -> Piece
     requires { 0 < length text.now }
@@ -57,24 +58,28 @@ fn token_piece(text: &[u8]) -> Piece
     }
 }
 
+/// Whether the text begins with `//`.
 fn opens_comment(text: &[u8]) -> bool
     ensures { result ≡ starts.opens_comment text.now }
 {
     matches!(text, [b'/', b'/', ..])
 }
 
+/// How many bytes the comment at the front has. The newline that ends it is no part of it.
 fn comment_len(text: &[u8]) -> usize
     ensures { result ≡ prefix_len is_comment_byte text.now }
 {
     text.iter().take_while(|byte| !is_newline(**byte)).count()
 }
 
+/// How many bytes at the front may stand in a name.
 fn name_len(text: &[u8]) -> usize
     ensures { result ≡ prefix_len is_name_byte text.now }
 {
     text.iter().take_while(|byte| is_name_byte(**byte)).count()
 }
 
+/// How many digits stand at the front.
 fn digits_len(text: &[u8]) -> usize
     ensures { result ≡ prefix_len is_digit text.now }
 {
@@ -88,6 +93,7 @@ fn is_keyword(word: &[u8]) -> bool
     KEYWORDS.contains(&word)
 }
 
+/// The keyword or name of these bytes.
 fn word_piece(word: &[u8]) -> Piece
     ensures { result ≡ spec.word_piece word.now }
 {
@@ -99,6 +105,7 @@ fn word_piece(word: &[u8]) -> Piece
     Piece::Found(kind, word.len())
 }
 
+/// The number of these digits.
 fn number_piece(digits: &[u8]) -> Piece
     requires { IsTrue (list_all is_digit digits.now) }
     ensures { result ≡ spec.number_piece digits.now }
@@ -109,6 +116,7 @@ fn number_piece(digits: &[u8]) -> Piece
     }
 }
 
+/// The mark at the front, two bytes long where it can be.
 fn mark_piece(text: &[u8]) -> Piece
     ensures { result ≡ spec.mark_piece text.now }
 {

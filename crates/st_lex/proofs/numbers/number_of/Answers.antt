@@ -1,5 +1,5 @@
 -- A digit that leads past the largest number is never made good by the digits after it.
-use Rattle.std.proofs.Common.{◌≡◌, ℕ, ◌+◌, ◌-◌, ◌*◌, ◌<◌, ◌≤◌, fold, drop, get_or, arith}
+use Rattle.std.proofs.Common.{◌≡◌, ◌+◌, ◌≤◌, fold, drop, get_or, arith}
 use Rattle.std.proofs.lemmas.List.{at_drop_more}
 use Rattle.st_lex.proofs.Runs.{with_digit, value_grows}
 use Rattle.st_lex.proofs.numbers.number_of.Goals as goal

@@ -1,5 +1,5 @@
 -- the digits that are left complete the value so far
-use Rattle.std.proofs.Common.{◌≡◌, ◌+◌, ◌-◌, ◌*◌, ◌≤◌, ℕ, drop, fold}
+use Rattle.std.proofs.Common.{◌≡◌, ◌+◌, ◌-◌, ◌*◌, ◌≤◌, drop, fold}
 use Rattle.st_lex.specs.declared.limits.TheConstants.{LARGEST_NUMBER}
 use Rattle.st_lex.specs.Spellings.{decimal}
 use Rattle.st_lex.proofs.numbers.number_of.Given as goal
