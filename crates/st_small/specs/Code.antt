@@ -17,7 +17,7 @@ pub data Request : Type 0 where
   make : ℕ → Request
   load : ℕ → ℕ → Request
   store : ℕ → ℕ → ℕ → Request
-  compare : ℕ → ℕ → ℕ → ℕ → Request
+  cas : ℕ → ℕ → ℕ → ℕ → Request
   launch : ℕ → Args → Request
 
 -- what a thread does next: it asks for something, or it has ended
@@ -83,8 +83,8 @@ abbrev pub threads_of : SmallLists → List (List SmallStmt)
 threads_of program = program.body ∷ []
 
 -- what a thread does next, after these replies
-abbrev pub next_turn : SmallLists → Sizes → ℕ → List ℕ → Turn
-next_turn program sizes thread replies =
+abbrev pub next_request : SmallLists → Sizes → ℕ → List ℕ → Turn
+next_request program sizes thread replies =
     turn_of (block_course 0 (unwrap_or (slice_get (threads_of program) thread) []) (record { values = []; charge = sizes.events }) replies)
 
 -- the reply that a thread has from its event
@@ -101,15 +101,15 @@ abbrev pub Answers : Event → Turn → Type 0
 Answers (New m obj class) turn = turn ≡ asks (make class)
 Answers (Load m obj field value) turn = turn ≡ asks (load obj field)
 Answers (Store m obj field value) turn = turn ≡ asks (store obj field value)
-Answers (Cas m obj field expect value done) turn = turn ≡ asks (compare obj field expect value)
+Answers (Cas m obj field expect value done) turn = turn ≡ asks (cas obj field expect value)
 Answers (Launch m number site args) turn = turn ≡ asks (launch site args)
 Answers (Retire m number) turn = ⊥
 
 -- after these replies, each event answers the request of the code, and the code ends so after the last
 abbrev pub FollowsAfter : SmallLists → Sizes → ℕ → List ℕ → List Event → End → Type 0
-FollowsAfter program sizes thread replies [] end = next_turn program sizes thread replies ≡ ends end
+FollowsAfter program sizes thread replies [] end = next_request program sizes thread replies ≡ ends end
 FollowsAfter program sizes thread replies (e ∷ es) end =
-    Answers e (next_turn program sizes thread replies) × FollowsAfter program sizes thread (replies ++ reply_of e ∷ []) es end
+    Answers e (next_request program sizes thread replies) × FollowsAfter program sizes thread (replies ++ reply_of e ∷ []) es end
 
 -- the events follow the thread's code from its beginning to this end
 unfoldable pub Follows : SmallLists → Sizes → ℕ → List Event → End → Type 0

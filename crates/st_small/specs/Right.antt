@@ -3,6 +3,7 @@ use Rattle.std.specs.Prelude.{◌≡◌, ℕ, ◌+◌, ◌*◌, ◌<◌, ◌≤�
 use Rattle.st_events.specs.declared.events.Event.{Event}
 use Rattle.st_events.specs.declared.limits.Sizes.{Sizes}
 use Rattle.st_events.specs.declared.verdicts.End.{End}
+use Rattle.st_events.specs.declared.verdicts.Plain.TheVariants.{Holds, Fails}
 use Rattle.st_events.specs.declared.verdicts.Verdict.{Verdict}
 use Rattle.st_events.specs.declared.verdicts.Verdict.TheVariants.{Plain as Value, Abandoned}
 use Rattle.st_events.specs.World.{Launched}
@@ -26,6 +27,12 @@ IsRightVerdict program sizes journal number verdict = IsValueAtLaunch program (l
 abbrev pub IsPlain : Verdict → Type 0
 IsPlain (Value plain) = Unit {0}
 IsPlain (Abandoned obj) = ⊥
+
+-- the verdict says that the check holds, or that it fails
+abbrev pub IsTruth : Verdict → Type 0
+IsTruth (Value Holds) = Unit {0}
+IsTruth (Value Fails) = Unit {0}
+IsTruth verdict = ⊥
 
 -- what a run leaves is right: the journal is legal; each thread has one end, and its own events follow its code to that
 -- end; each launched check has one verdict, which is right; no check is active at the end, and every copy is free; and a

@@ -1,15 +1,20 @@
 -- The run of a small program as a function of its statements: the working definition that the code meets step by step.
-use Rattle.std.specs.Prelude.{◌≡◌, ℕ, ◌+◌, ◌<◌, List, [], ◌∷◌, ◌++◌, IsSome, slice_get}
+use Rattle.std.specs.Prelude.{◌≡◌, ℕ, ◌+◌, ◌*◌, ◌<◌, ◌≤◌, List, [], ◌∷◌, ◌++◌, length, IsSome}
 use Rattle.st_events.specs.declared.events.Event.{Event}
 use Rattle.st_events.specs.declared.events.Event.TheVariants.{New, Store, Launch, Retire}
 use Rattle.st_events.specs.declared.verdicts.Verdict.{Verdict}
 use Rattle.st_events.specs.declared.verdicts.Verdict.TheVariants.{Plain as Value}
+use Rattle.st_events.specs.declared.limits.Sizes.{Sizes}
+use Rattle.st_events.specs.declared.shapes.Kind.{Kind}
+use Rattle.st_events.specs.declared.verdicts.End.TheVariants.{Finished}
 use Rattle.st_events.specs.Shape.{ShapeLists}
-use Rattle.st_events.specs.Heap.{Heap, with_object, with_word, word_at, fresh}
+use Rattle.st_events.specs.Heap.{Heap, with_object, with_word, word_at, fresh, first_heap}
+use Rattle.st_events.specs.Ran.{RanLists}
+use Rattle.st_parse.specs.Small.{SmallLists}
 use Rattle.st_parse.specs.declared.programs.SmallStmt.{SmallStmt}
 use Rattle.st_parse.specs.declared.programs.SmallStmt.TheVariants.{Make, Put, Check}
-use Rattle.st_small.specs.declared.limits.TheConstants.{NODE_CLASS, ONLY_THREAD, FIRST_OBJECT}
-use Rattle.st_small.specs.Program.{Comparison, plain_of, comparison_holds}
+use Rattle.st_small.specs.declared.limits.TheConstants.{NODE_CLASS, ONLY_THREAD, FIRST_OBJECT, LAUNCH_COST}
+use Rattle.st_small.specs.Program.{plain_of, comparison_holds}
 use Rattle.st_small.specs.Code.{one_argument}
 
 -- where a run stands: the heap, how many locals are made, and how many checks are launched
@@ -65,3 +70,30 @@ CanDo room at (Check local field value place) = Unit {0}
 abbrev pub CanDoAll : ShapeLists → ℕ → Progress → List SmallStmt → Type 0
 CanDoAll shape room at [] = Unit {0}
 CanDoAll shape room at (statement ∷ rest) = CanDo room at statement × CanDoAll shape room (after shape at statement) rest
+
+-- the classes of a program, without its checks, which is what its heap knows of it
+abbrev pub classes_of : List Kind → ShapeLists
+classes_of fields = record { classes = [] ∷ fields ∷ []; checks = [] }
+
+-- where a run stands before its first statement
+abbrev pub start_of : ShapeLists → Progress
+start_of shape = record { heap = first_heap shape; made = 0; launched = 0 }
+
+-- the journal of the whole run
+abbrev pub journal_of : SmallLists → List Event
+journal_of program = events_from (classes_of program.fields) (start_of (classes_of program.fields)) program.body
+
+-- the verdicts of the whole run
+abbrev pub all_verdicts_of : SmallLists → List Verdict
+all_verdicts_of program = verdicts_from (classes_of program.fields) (start_of (classes_of program.fields)) program.body
+
+-- what the whole run leaves
+abbrev pub run_of : SmallLists → Sizes → RanLists
+run_of program sizes = record { journal = journal_of program; verdicts = all_verdicts_of program; ends = Finished ∷ []; free = sizes.copies }
+
+-- the sizes are for one thread, and neither its objects nor its charge run out
+pub record HaveRoom (program : SmallLists) (sizes : Sizes) : Type 0 where
+  pub mutators : sizes.mutators ≡ 1
+  pub lanes : 1 ≤ sizes.lanes
+  pub objects : length program.body ≤ sizes.objects
+  pub charge : LAUNCH_COST * length program.body ≤ sizes.events

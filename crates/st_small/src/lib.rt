@@ -5,5 +5,7 @@
 mod limits;
 mod machines;
 mod runs;
+#[cfg(test)]
+mod tests;
 
 pub use runs::run_small;

@@ -1,25 +1,54 @@
 //! The run of a small program, whole.
-ghost use Rattle.std.specs.Prelude.{◌≡◌, IfOk};
-ghost use Rattle.st_small.specs.Program.{IsWellFormed, shape_of};
+ghost use Rattle.std.specs.Prelude.{◌≡◌, ◌+◌, ◌*◌, ◌≤◌, [], ◌∷◌, ◌++◌, length, All, IfOk, OnOk};
+ghost use Rattle.st_events.specs.Heap.{first_heap, heap_of};
+ghost use Rattle.st_events.specs.Shape.{IsWithinLimits};
+ghost use Rattle.st_events.specs.Sizes.{usual_sizes, AreWithinLimits};
+ghost use Rattle.st_small.specs.Program.{IsWellFormed};
+ghost use Rattle.st_small.specs.Right.{IsRightRun, IsTruth};
+ghost use Rattle.st_small.specs.Running.{CanDoAll, HaveRoom, events_from, verdicts_from, start_of, classes_of, run_of};
+ghost use Rattle.st_small.specs.Machine.{progress_of, HasDoneAtMost};
 
-use crate::limits::{MOST_EVENTS_OF_STATEMENT, ONLY_THREAD};
+use crate::limits::{FIRST_OBJECT, MOST_EVENTS_OF_STATEMENT, MOST_STATEMENTS};
 use crate::machines::Machine;
 use st_events::{End, HeapMap, Journal, Kind, NoMemory, Ran, Shape, Sizes};
 use st_parse::{Small, SmallStmt};
 use std::alloc::Global;
 
-/// Runs the program with the usual sizes, to its end.
+/// Runs the program with the usual sizes, to its end. What it leaves is right: one legal history, whole, with the plain
+/// value of each check on the heap as it stood at its launch.
 pub fn run_small(alloc: Global, small: &Small) -> Result<Ran, NoMemory>
     requires { IsWellFormed small.now }
+    ensures right { IfOk result (λ ran. IsRightRun small.now (usual_sizes 1) ran) }
+    // The thread is finished, and each check holds or fails.
+    ensures finished { IfOk result (λ ran. ran.ends ≡ End.Finished ∷ []) }
+    ensures truths { IfOk result (λ ran. All IsTruth ran.verdicts) }
 {
     let sizes = Sizes::usual(1);
-    let mut machine = start(alloc, small, &sizes)?;
+    run_with(alloc, small, &sizes)
+}
+
+/// The same with sizes that have room for the program.
+fn run_with(alloc: Global, small: &Small, sizes: &Sizes) -> Result<Ran, NoMemory>
+    requires small { IsWellFormed small.now }
+    requires fit { AreWithinLimits sizes.now }
+    requires room { HaveRoom small.now sizes.now }
+    ensures { IfOk result (λ ran. ran ≡ run_of small.now sizes.now) }
+{
+    let mut machine = start(alloc, small, sizes)?;
     run_body(&mut machine, small.body.as_slice())?;
-    finish(alloc, machine, &sizes)
+    finish(alloc, machine, sizes)
 }
 
 /// The machine before the first statement, with room for the events of all of them.
-fn start(alloc: Global, small: &Small, sizes: &Sizes) -> Result<Machine, NoMemory> {
+fn start(alloc: Global, small: &Small, sizes: &Sizes) -> Result<Machine, NoMemory>
+    requires small { IsWellFormed small.now }
+    requires sizes { AreWithinLimits sizes.now }
+    ensures shape { IfOk result (λ machine. machine.shape ≡ classes_of small.now.fields) }
+    ensures heap { IfOk result (λ machine. progress_of machine ≡ start_of (classes_of small.now.fields)) }
+    ensures room { IfOk result (λ machine. length machine.heap ≡ FIRST_OBJECT + sizes.now.mutators * sizes.now.objects) }
+    ensures journal { IfOk result (λ machine. machine.journal.events ≡ []) }
+    ensures verdicts { IfOk result (λ machine. machine.verdicts.items ≡ []) }
+{
     let shape = shape_of_classes(alloc, small.fields.as_slice())?;
     let heap = HeapMap::make(alloc, &shape, sizes)?;
     let room = MOST_EVENTS_OF_STATEMENT * small.body.len() as u32;
@@ -34,7 +63,9 @@ fn start(alloc: Global, small: &Small, sizes: &Sizes) -> Result<Machine, NoMemor
 }
 
 /// The class of the shared object, which has no fields, and the class of the program. The heap asks for no more.
-fn shape_of_classes(alloc: Global, fields: &[Kind]) -> Result<Shape, NoMemory> {
+fn shape_of_classes(alloc: Global, fields: &[Kind]) -> Result<Shape, NoMemory>
+    ensures { IfOk result (λ shape. shape ≡ classes_of fields.now) }
+{
     let classes = vec![in alloc; Vec::new(alloc), fields.to_vec(alloc)?]?;
     Ok(Shape {
         classes,
@@ -43,7 +74,14 @@ fn shape_of_classes(alloc: Global, fields: &[Kind]) -> Result<Shape, NoMemory> {
 }
 
 /// Does the statements, one after another.
-fn run_body(machine: &mut Machine, body: &[SmallStmt]) -> Result<(), NoMemory> {
+fn run_body(machine: &mut Machine, body: &[SmallStmt]) -> Result<(), NoMemory>
+    requires shape { IsWithinLimits machine.old.shape }
+    requires can_do { CanDoAll machine.old.shape (length machine.old.heap) (progress_of machine.old) body.now }
+    requires first { HasDoneAtMost 0 machine.old }
+    requires few { length body.now ≤ MOST_STATEMENTS }
+    ensures events { OnOk result (machine.new.journal.events ≡ machine.old.journal.events ++ events_from machine.old.shape (progress_of machine.old) body.now) }
+    ensures verdicts { OnOk result (machine.new.verdicts.items ≡ machine.old.verdicts.items ++ verdicts_from machine.old.shape (progress_of machine.old) body.now) }
+{
     for statement in body {
         machine.step(*statement)?;
     }
@@ -51,51 +89,13 @@ fn run_body(machine: &mut Machine, body: &[SmallStmt]) -> Result<(), NoMemory> {
 }
 
 /// What the machine leaves at the end: the thread is finished, and no copy was taken.
-fn finish(alloc: Global, machine: Machine, sizes: &Sizes) -> Result<Ran, NoMemory> {
+fn finish(alloc: Global, machine: Machine, sizes: &Sizes) -> Result<Ran, NoMemory>
+    ensures { IfOk result (λ ran. ran ≡ record { journal = machine.journal.events; verdicts = machine.verdicts.items; ends = End.Finished ∷ []; free = sizes.now.copies }) }
+{
     Ok(Ran {
         journal: machine.journal.into_events(),
         verdicts: machine.verdicts,
         ends: vec![in alloc; End::Finished]?,
         free: sizes.copies,
     })
-}
-
-#[cfg(test)]
-mod tests {
-    use super::*;
-    use st_events::{Args, Event, Plain, Site, Verdict};
-
-    /// `var n: Node = new Node; check n.val == VALUE; n.val = 1;` in a thread `t`.
-    fn two(alloc: Global, value: u64) -> Result<Small, NoMemory> {
-        Ok(Small {
-            thread: vec![in alloc; b't']?,
-            fields: vec![in alloc; Kind::Int, Kind::Ref(1)]?,
-            body: vec![in alloc;
-                SmallStmt::Make,
-                SmallStmt::Check {
-                    local: 0,
-                    field: 0,
-                    value,
-                    site: Site { line: 4, column: 3 }
-                },
-                SmallStmt::Put {
-                    local: 0,
-                    field: 0,
-                    value: 1
-                },
-            ]?,
-        })
-    }
-
-    #[test]
-    fn a_check_is_of_the_heap_at_its_launch(rt: HostRuntime) {
-        for (value, verdict) in [(0, Plain::Holds), (1, Plain::Fails)] {
-            let small = two(rt.alloc(), value).unwrap();
-            let ran = run_small(rt.alloc(), &small).unwrap();
-            assert_eq!(rt;
-                ran.verdicts.as_slice(),
-                [Verdict::Plain(verdict)].as_slice()
-            );
-        }
-    }
 }

@@ -1,0 +1,7 @@
+mod CodeLemmas
+mod LegalLemmas
+mod LocalLemmas
+mod MachineLemmas
+mod RunLemmas
+mod VerdictLemmas
+mod WorldLemmas

@@ -1,0 +1,117 @@
+-- What the functional run of a well-formed program leaves is a right run
+use Rattle.std.proofs.Common.{◌≡◌, ℕ, zero, suc, ◌+◌, ◌*◌, ◌<◌, ◌≤◌, List, [], ◌∷◌, ◌++◌, length, slice_get, unwrap_or, Option, Some, None, All, refl, sym, ◌∙◌, ap, subst, arith}
+use Rattle.std.proofs.lemmas.List.Elements.{All-from_recursion}
+use Rattle.st_events.specs.declared.events.Event.{Event}
+use Rattle.st_events.specs.declared.limits.Sizes.{Sizes}
+use Rattle.st_events.specs.declared.verdicts.End.{End}
+use Rattle.st_events.specs.declared.verdicts.End.TheVariants.{Finished}
+use Rattle.st_events.specs.declared.verdicts.Verdict.{Verdict}
+use Rattle.st_events.specs.History.{own_events, launch_of, epoch_of, active_checks}
+use Rattle.st_events.specs.Legal.{IsLegal}
+use Rattle.st_events.specs.Ran.{RanLists}
+use Rattle.st_events.specs.Sizes.{usual_sizes}
+use Rattle.st_events.specs.World.{first_world}
+use Rattle.st_parse.specs.Small.{SmallLists}
+use Rattle.st_parse.specs.declared.programs.SmallStmt.{SmallStmt}
+use Rattle.st_small.specs.Program.{IsWellFormed, checks_of, shape_of}
+use Rattle.st_small.specs.Code.{Follows}
+use Rattle.st_small.specs.Right.{IsRightRun, IsRightVerdict, IsPlain, IsTruth}
+use Rattle.st_small.specs.Running.{HaveRoom, classes_of, start_of, events_from, verdicts_from, journal_of, all_verdicts_of, run_of, CanDoAll}
+use Rattle.st_small.specs.Machine.{progress_of}
+use Rattle.st_small.specs.declared.machines.Machine.{Machine}
+use Rattle.st_small.proofs.CodeLemmas.{IsAt, follows-from}
+use Rattle.st_small.proofs.LegalLemmas.{legal-from}
+use Rattle.st_small.proofs.VerdictLemmas.{right-from, launches-counted, none-left-active, all-plain, all-truths}
+use Rattle.st_small.proofs.LocalLemmas.{HaveObjects, can-do-all}
+use Rattle.st_small.proofs.WorldLemmas.{IsReady}
+
+pub room-of-usual : (program : SmallLists) → IsWellFormed program → HaveRoom program (usual_sizes 1)
+room-of-usual program w = record { mutators = refl; lanes = omega arith; objects = omega (arith, w.statements); charge = omega (arith, w.statements) }
+
+ready-first : (program : SmallLists) (sizes : Sizes) → IsWellFormed program → HaveRoom program sizes → IsReady program sizes (first_world (shape_of program)) program.body
+ready-first program sizes w room = record {
+  done = [];
+  checks = refl;
+  epoch = refl;
+  active = refl;
+  objects = λ k lt. absurd (omega (arith, lt));
+  in_order = w.in_order;
+  room = omega (arith, room.objects);
+}
+
+at-first : (program : SmallLists) (sizes : Sizes) → HaveRoom program sizes → IsAt program sizes [] (start_of (classes_of program.fields)) program.body
+at-first program sizes room = record {
+  site = 0;
+  locals = record { values = []; charge = sizes.events };
+  turns = λ more. refl;
+  site_is = refl;
+  values = λ k lt. absurd (omega (arith, lt));
+  made = refl;
+  charge = room.charge;
+}
+
+follows : (program : SmallLists) (sizes : Sizes) → IsWellFormed program → HaveRoom program sizes →
+    Follows program sizes 0 (own_events 0 (journal_of program)) Finished
+unfolding Follows
+follows program sizes w room = follows-from program sizes [] (start_of (classes_of program.fields)) program.body w.in_order (at-first program sizes room)
+
+-- the only end is that of thread 0
+only-thread : (program : SmallLists) (sizes : Sizes) (journal : List Event) → Follows program sizes 0 (own_events 0 journal) Finished → (thread : ℕ) (end : End) → slice_get (Finished ∷ []) thread ≡ Some end →
+    Follows program sizes thread (own_events thread journal) end
+only-thread program sizes journal f zero end e = subst (Follows program sizes 0 (own_events 0 journal)) (ap (λ o. unwrap_or o end) e) f
+only-thread program sizes journal f (suc thread) end e = absurd (cc)
+
+legal : (program : SmallLists) (sizes : Sizes) → IsWellFormed program → HaveRoom program sizes →
+    IsLegal (shape_of program) sizes (journal_of program)
+unfolding IsLegal
+legal program sizes w room = legal-from program sizes (first_world (shape_of program)) program.body room (ready-first program sizes w room)
+
+right-verdicts : (program : SmallLists) (sizes : Sizes) → IsWellFormed program → HaveRoom program sizes → (n : ℕ) (verdict : Verdict) →
+    slice_get (all_verdicts_of program) n ≡ Some verdict →
+    IsRightVerdict program sizes (journal_of program) (n + 1) verdict
+right-verdicts program sizes w room n verdict e =
+    let number : 0 + (n + 1) ≡ n + 1 = omega arith in
+    subst (λ k. IsRightVerdict program sizes (journal_of program) k verdict) number
+    (right-from program sizes (first_world (shape_of program)) program.body (ready-first program sizes w room) n verdict e)
+
+pub right-run : (program : SmallLists) (sizes : Sizes) → IsWellFormed program → HaveRoom program sizes → IsRightRun program sizes (run_of program sizes)
+right-run program sizes w room = record {
+  legal = legal program sizes w room;
+  one_end_each = refl;
+  to_its_end = only-thread program sizes (journal_of program) (follows program sizes w room);
+  one_verdict_each = omega (arith, launches-counted program sizes (first_world (shape_of program)) program.body);
+  right_verdicts = right-verdicts program sizes w room;
+  none_active = none-left-active program sizes (first_world (shape_of program)) program.body (ready-first program sizes w room);
+  all_free = refl;
+  none_abandoned = λ _. All-from_recursion IsPlain (all_verdicts_of program) (all-plain (classes_of program.fields) (start_of (classes_of program.fields)) program.body);
+}
+
+pub truths : (program : SmallLists) → All IsTruth (all_verdicts_of program)
+truths program = All-from_recursion IsTruth (all_verdicts_of program) (all-truths (classes_of program.fields) (start_of (classes_of program.fields)) program.body)
+
+-- a machine before the first statement can do them all
+pub can-do-first : (program : SmallLists) (sizes : Sizes) (machine : Machine) (body : List SmallStmt) → IsWellFormed program → HaveRoom program sizes → body ≡ program.body →
+    machine.shape ≡ classes_of program.fields → progress_of machine ≡ start_of (classes_of program.fields) → length machine.heap ≡ 2 + sizes.mutators * sizes.objects →
+    CanDoAll machine.shape (length machine.heap) (progress_of machine) body
+can-do-first program sizes machine body w room is shape at size =
+    let first : HaveObjects program.fields (start_of (classes_of program.fields)).heap 0 = λ k lt. absurd (omega (arith, lt)) in
+    rw (shape, at, size, is, room.mutators) (can-do-all program.fields (2 + 1 * sizes.objects) (start_of (classes_of program.fields)) program.body first w.in_order (omega (arith, room.objects)))
+
+-- what a machine has written when the statements are done
+pub written : (program : SmallLists) (old new : Machine) (body : List SmallStmt) → body ≡ program.body → old.shape ≡ classes_of program.fields → progress_of old ≡ start_of (classes_of program.fields) →
+    old.journal.events ≡ [] → old.verdicts.items ≡ [] →
+    new.journal.events ≡ old.journal.events ++ events_from old.shape (progress_of old) body → new.verdicts.items ≡ old.verdicts.items ++ verdicts_from old.shape (progress_of old) body →
+    (new.journal.events ≡ journal_of program) × (new.verdicts.items ≡ all_verdicts_of program)
+written program old new body is shape at no_events no_verdicts events verdicts =
+    (rw (events, no_events, shape, at, is) refl, rw (verdicts, no_verdicts, shape, at, is) refl)
+
+-- what is read off the machine is the run
+pub is-run : (program : SmallLists) (sizes : Sizes) (ran : RanLists) (events : List Event) (verdicts : List Verdict) → (events ≡ journal_of program) × (verdicts ≡ all_verdicts_of program) →
+    ran ≡ record { journal = events; verdicts = verdicts; ends = Finished ∷ []; free = sizes.copies } → ran ≡ run_of program sizes
+is-run program sizes ran events verdicts are is = is ∙ rw (are.0, are.1) refl
+
+pub right-as-run : (program : SmallLists) (ran : RanLists) → IsWellFormed program → ran ≡ run_of program (usual_sizes 1) → IsRightRun program (usual_sizes 1) ran
+right-as-run program ran w is = subst (IsRightRun program (usual_sizes 1)) (sym is) (right-run program (usual_sizes 1) w (room-of-usual program w))
+
+pub truths-as-run : (program : SmallLists) (sizes : Sizes) (ran : RanLists) → ran ≡ run_of program sizes → All IsTruth ran.verdicts
+truths-as-run program sizes ran is = subst (λ (r : RanLists). All IsTruth r.verdicts) (sym is) (truths program)
