@@ -44,6 +44,20 @@ unfoldable pub mark_at : List ℕ → List Terminal → Option (List Terminal)
 mark_at word (mark bytes ∷ rest) = if bytes_eq bytes word then Some rest else None
 mark_at word _ = None
 
+-- a name and the mark after it
+unfoldable pub name_then : List ℕ → List Terminal → Option (List ℕ × List Terminal)
+name_then word ts = do
+  name ← name_at ts
+  rest ← mark_at word name.1
+  Some (name.0, rest)
+
+-- a number and the mark after it
+unfoldable pub number_then : List ℕ → List Terminal → Option (ℕ × List Terminal)
+number_then word ts = do
+  value ← number_at ts
+  rest ← mark_at word value.1
+  Some (value.0, rest)
+
 unfoldable pub kind_at : List Terminal → Option (FieldKind × List Terminal)
 kind_at (a_name class ∷ rest) = Some (class_kind class, rest)
 kind_at (keyword word ∷ rest) = if bytes_eq word (codes "int") then Some (int_kind, rest) else None
@@ -51,47 +65,34 @@ kind_at _ = None
 
 unfoldable pub field_at : List Terminal → Option (Field × List Terminal)
 field_at ts = do
-  name ← name_at ts
-  colon ← mark_at (codes ":") name.1
-  kind ← kind_at colon
+  name ← name_then (codes ":") ts
+  kind ← kind_at name.1
   rest ← mark_at (codes ";") kind.1
   Some (record { name = name.0; kind = kind.0 }, rest)
 
 unfoldable pub make_at : List Terminal → Option (Statement × List Terminal)
 make_at ts = do
   var ← keyword_at (codes "var") ts
-  local ← name_at var
-  colon ← mark_at (codes ":") local.1
-  class ← name_at colon
-  equals ← mark_at (codes "=") class.1
-  new ← keyword_at (codes "new") equals
-  made ← name_at new
-  rest ← mark_at (codes ";") made.1
-  Some (make_local local.0 class.0 made.0, rest)
-
-unfoldable pub place_at : List Terminal → Option (List ℕ × List ℕ × List Terminal)
-place_at ts = do
-  local ← name_at ts
-  dot ← mark_at (codes ".") local.1
-  field ← name_at dot
-  Some (local.0, field.0, field.1)
+  local ← name_then (codes ":") var
+  class ← name_then (codes "=") local.1
+  new ← keyword_at (codes "new") class.1
+  made ← name_then (codes ";") new
+  Some (make_local local.0 class.0 made.0, made.1)
 
 unfoldable pub put_at : List Terminal → Option (Statement × List Terminal)
 put_at ts = do
-  place ← place_at ts
-  equals ← mark_at (codes "=") place.2
-  value ← number_at equals
-  rest ← mark_at (codes ";") value.1
-  Some (put_field place.0 place.1 value.0, rest)
+  local ← name_then (codes ".") ts
+  field ← name_then (codes "=") local.1
+  value ← number_then (codes ";") field.1
+  Some (put_field local.0 field.0 value.0, value.1)
 
 unfoldable pub check_statement_at : List Terminal → Option (Statement × List Terminal)
 check_statement_at ts = do
   check ← check_word_at ts
-  place ← place_at check.1
-  equals ← mark_at (codes "==") place.2
-  value ← number_at equals
-  rest ← mark_at (codes ";") value.1
-  Some (check_field place.0 place.1 value.0 check.0, rest)
+  local ← name_then (codes ".") check.1
+  field ← name_then (codes "==") local.1
+  value ← number_then (codes ";") field.1
+  Some (check_field local.0 field.0 value.0 check.0, value.1)
 
 -- the statement that the first terminal announces
 unfoldable pub statement_at : List Terminal → Option (Statement × List Terminal)
@@ -104,24 +105,20 @@ abbrev pub or_more : {A : Type 0} → Option (List Terminal) → Option (List A 
 or_more (Some rest) more = Some ([], rest)
 or_more None more = more
 
--- items up to the brace that closes, fewer than the number
+-- fewer items than the number, up to the brace that closes
 unfoldable pub items_at : {A : Type 0} → (List Terminal → Option (A × List Terminal)) → ℕ → List Terminal → Option (List A × List Terminal)
 items_at item zero ts = None
 items_at item (suc n) ts = or_more (mark_at (codes "}") ts) (item ts >>= λ first. items_at item n first.1 >>= λ others. Some (first.0 ∷ others.0, others.1))
 
-abbrev pub fields_at : List Terminal → Option (List Field × List Terminal)
-fields_at ts = items_at field_at (suc (length ts)) ts
-
-abbrev pub body_at : List Terminal → Option (List Statement × List Terminal)
-body_at ts = items_at statement_at (suc (length ts)) ts
+-- items up to the brace that closes, of which there are at most as many as terminals
+abbrev pub block_at : {A : Type 0} → (List Terminal → Option (A × List Terminal)) → List Terminal → Option (List A × List Terminal)
+block_at item ts = items_at item (suc (length ts)) ts
 
 -- a name in braces after a keyword
 unfoldable pub head_at : List ℕ → List Terminal → Option (List ℕ × List Terminal)
 head_at word ts = do
   start ← keyword_at word ts
-  name ← name_at start
-  rest ← mark_at (codes "{") name.1
-  Some (name.0, rest)
+  name_then (codes "{") start
 
 abbrev pub ended : {A : Type 0} → A → List Terminal → Option A
 ended x [] = Some x
@@ -131,7 +128,7 @@ ended x (t ∷ ts) = None
 unfoldable pub program_at : List Terminal → Option Program
 program_at ts = do
   class ← head_at (codes "class") ts
-  fields ← fields_at class.1
+  fields ← block_at field_at class.1
   thread ← head_at (codes "thread") fields.1
-  body ← body_at thread.1
+  body ← block_at statement_at thread.1
   ended (record { class = class.0; fields = fields.0; thread = thread.0; body = body.0 }) body.1

@@ -1,5 +1,6 @@
 -- The code's symbols and trees without where they lie in memory.
 use Rattle.std.specs.Prelude.{ℕ, List, map}
+use Rattle.std.specs.Borrow.{Bor}
 use Rattle.st_parse.specs.declared.symbols.Symbol.{Symbol}
 use Rattle.st_parse.specs.declared.symbols.Symbol.TheVariants as symbols
 use Rattle.st_parse.specs.declared.trees.KindTree.{KindTree}
@@ -35,3 +36,6 @@ statement_view (stmts.Check local field value site) = check_field local.now fiel
 abbrev pub program_view : Tree → Program
 program_view t =
     record { class = t.class.now; fields = map field_view t.fields.items; thread = t.thread.now; body = map statement_view t.body.items }
+
+abbrev pub name_views : List (Bor (List ℕ)) → List (List ℕ)
+name_views names = map (λ n. n.now) names

@@ -2,12 +2,20 @@
 //! It reads the tokens of a text into a program whose locals and fields are numbers.
 #![tactic(auto)]
 
+mod limits;
+mod names;
 mod programs;
 mod refusals;
+mod sources;
 mod symbols;
 mod syntax;
 mod terminals;
 mod trees;
 
+pub use limits::{MOST_FIELDS, MOST_LOCALS, MOST_STATEMENTS};
 pub use programs::{Small, SmallStmt};
 pub use refusals::SmallError;
+pub use sources::small;
+
+#[cfg(test)]
+mod tests;

@@ -1,5 +1,5 @@
 //! Readers of one symbol. Each gives what it read and the symbols after it, or nothing where another symbol stands.
-ghost use Rattle.st_parse.specs.Reading.{Reads, name_at, number_at, check_word_at, keyword_at, mark_at};
+ghost use Rattle.st_parse.specs.Reading.{Reads, name_at, number_at, check_word_at, keyword_at, mark_at, name_then, number_then};
 ghost use Rattle.st_parse.specs.Views.{terminals};
 
 use crate::symbols::Symbol;
@@ -7,7 +7,7 @@ use st_events::Site;
 
 /// A name.
 #[tactic(auto, unfolding(crate::specs::Reading::name_at))]
-pub(crate) fn name<'t, 'a>(symbols: &'t [Symbol<'a>]) -> Option<(&'a [u8], &'t [Symbol<'a>])>
+fn name<'t, 'a>(symbols: &'t [Symbol<'a>]) -> Option<(&'a [u8], &'t [Symbol<'a>])>
     ensures { Reads (λ x. (x.0.now, terminals x.1.now)) result (name_at (terminals symbols.now)) }
 {
     match symbols {
@@ -18,7 +18,7 @@ pub(crate) fn name<'t, 'a>(symbols: &'t [Symbol<'a>]) -> Option<(&'a [u8], &'t [
 
 /// A number.
 #[tactic(auto, unfolding(crate::specs::Reading::number_at))]
-pub(crate) fn number<'t, 'a>(symbols: &'t [Symbol<'a>]) -> Option<(u64, &'t [Symbol<'a>])>
+fn number<'t, 'a>(symbols: &'t [Symbol<'a>]) -> Option<(u64, &'t [Symbol<'a>])>
     ensures { Reads (λ x. (x.0, terminals x.1.now)) result (number_at (terminals symbols.now)) }
 {
     match symbols {
@@ -58,4 +58,28 @@ pub(crate) fn mark<'t, 'a>(symbols: &'t [Symbol<'a>], word: &[u8]) -> Option<&'t
         [Symbol::Mark(bytes), rest @ ..] if *bytes == word => Some(rest),
         _ => None,
     }
+}
+
+/// A name, and the mark after it.
+#[tactic(auto, unfolding(crate::specs::Reading::name_then))]
+pub(crate) fn name_then<'t, 'a>(
+    symbols: &'t [Symbol<'a>],
+    word: &[u8],
+) -> Option<(&'a [u8], &'t [Symbol<'a>])>
+    ensures { Reads (λ x. (x.0.now, terminals x.1.now)) result (name_then word.now (terminals symbols.now)) }
+{
+    let (name, rest) = name(symbols)?;
+    Some((name, mark(rest, word)?))
+}
+
+/// A number, and the mark after it.
+#[tactic(auto, unfolding(crate::specs::Reading::number_then))]
+pub(crate) fn number_then<'t, 'a>(
+    symbols: &'t [Symbol<'a>],
+    word: &[u8],
+) -> Option<(u64, &'t [Symbol<'a>])>
+    ensures { Reads (λ x. (x.0, terminals x.1.now)) result (number_then word.now (terminals symbols.now)) }
+{
+    let (value, rest) = number(symbols)?;
+    Some((value, mark(rest, word)?))
 }

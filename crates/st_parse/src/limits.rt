@@ -1,0 +1,8 @@
+//! The limits of a small program.
+
+/// The most fields of the class.
+pub const MOST_FIELDS: usize = 12;
+/// The most locals of the thread.
+pub const MOST_LOCALS: usize = 32;
+/// The most statements of the thread.
+pub const MOST_STATEMENTS: usize = 1_000;

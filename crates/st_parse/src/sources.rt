@@ -1,0 +1,41 @@
+//! The one call: from the bytes of a text to a program in numbers.
+ghost use Rattle.std.specs.Prelude.{◌≡◌, ◌≤◌, length, IfOk, IsErrOf};
+ghost use Rattle.st_lex.specs.declared.limits.TheConstants.{MOST_SOURCE_BYTES};
+ghost use Rattle.st_parse.specs.Answers.{program_of};
+ghost use Rattle.st_parse.specs.Reading.{Gives};
+ghost use Rattle.st_parse.specs.Small.{SmallLists};
+ghost use Rattle.st_parse.specs.Source.{IsSmallSource};
+
+use crate::names::numbered_program;
+use crate::programs::Small;
+use crate::refusals::SmallError;
+use crate::symbols::symbols_of;
+use crate::syntax::program;
+use st_lex::{LexError, tokens};
+use std::alloc::Global;
+
+/// The program of a source of the small form, of at most `MOST_SOURCE_BYTES` bytes. Answers `NotBuilt` for every other text.
+pub fn small(alloc: Global, text: &[u8]) -> Result<Small, SmallError>
+    requires { length text.now ≤ MOST_SOURCE_BYTES }
+    ensures built { IfOk result (λ program. IsSmallSource text.now program) }
+    ensures only_one { IfOk result (λ program. (other : SmallLists) → IsSmallSource text.now other → other ≡ program) }
+    ensures not_built { IsErrOf result SmallError.NotBuilt → (program : SmallLists) → ¬ IsSmallSource text.now program }
+{
+    read(alloc, text)
+}
+
+#[tactic(auto, unfolding(crate::specs::Answers::program_of))]
+fn read(alloc: Global, text: &[u8]) -> Result<Small, SmallError>
+    requires { length text.now ≤ MOST_SOURCE_BYTES }
+    ensures { Gives (λ program. program) result (program_of text.now) }
+{
+    match tokens(alloc, text) {
+        Ok(tokens) => {
+            let symbols = symbols_of(alloc, text, &tokens)?;
+            let tree = program(alloc, &symbols)?;
+            numbered_program(alloc, &tree)
+        }
+        Err(LexError::Memory) => Err(SmallError::Memory),
+        Err(_) => Err(SmallError::NotBuilt),
+    }
+}
