@@ -4,11 +4,9 @@ use Rattle.st_io.specs.declared.faults.FilesFault.{FilesFault}
 use Rattle.st_io.specs.declared.faults.FilesFault.TheVariants as files
 use Rattle.st_parse.specs.declared.refusals.SmallError.{SmallError}
 use Rattle.st_parse.specs.declared.refusals.SmallError.TheVariants as errors
-use Rattle.st_top.specs.declared.endings.Ending.{Ending}
-use Rattle.st_top.specs.declared.endings.Ending.TheVariants.{Holds, CheckFails, WriteFault, Refused}
 use Rattle.st_top.specs.declared.endings.Refusal.{Refusal}
 use Rattle.st_top.specs.declared.endings.Refusal.TheVariants.{Words, NoMemory, ReadFault, SourceTooLong, SourceNotBuilt}
-use Rattle.st_top.specs.declared.endings.TheConstants.{STATUS_HOLDS, STATUS_CHECK_FAILS, STATUS_WORDS, STATUS_SOURCE, STATUS_READ_FAULT, STATUS_WRITE_FAULT, STATUS_NO_MEMORY}
+use Rattle.st_top.specs.declared.endings.TheConstants.{STATUS_WORDS, STATUS_SOURCE, STATUS_READ_FAULT, STATUS_NO_MEMORY}
 
 -- the status of a refusal
 abbrev pub refused_status : Refusal → ℕ
@@ -17,13 +15,6 @@ refused_status NoMemory = STATUS_NO_MEMORY
 refused_status ReadFault = STATUS_READ_FAULT
 refused_status SourceTooLong = STATUS_SOURCE
 refused_status SourceNotBuilt = STATUS_SOURCE
-
--- the status of an end
-abbrev pub status_of : Ending → ℕ
-status_of Holds = STATUS_HOLDS
-status_of CheckFails = STATUS_CHECK_FAILS
-status_of WriteFault = STATUS_WRITE_FAULT
-status_of (Refused refusal) = refused_status refusal
 
 -- the line of a refusal
 abbrev pub line_of : Refusal → List ℕ

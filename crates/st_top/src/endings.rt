@@ -1,6 +1,6 @@
 //! How a call can end, and the status of each end.
 ghost use Rattle.std.specs.Prelude.{◌≡◌};
-ghost use Rattle.st_top.specs.Endings.{line_of, status_of, refused_status, files_refusal, source_refusal};
+ghost use Rattle.st_top.specs.Endings.{line_of, refused_status, files_refusal, source_refusal};
 
 use st_events::NoMemory;
 use st_io::FilesFault;
@@ -36,19 +36,6 @@ pub enum Refusal {
     SourceNotBuilt,
 }
 
-/// How a call ended.
-#[derive(Clone, Copy, Debug, PartialEq, Eq)]
-pub enum Ending {
-    /// The report was written, and no check fails.
-    Holds,
-    /// The report was written, and some check fails.
-    CheckFails,
-    /// The source was run, and a write of its report failed.
-    WriteFault,
-    /// There was no run.
-    Refused(Refusal),
-}
-
 impl Refusal {
     /// The line that is written, with its newline.
     pub fn line(self) -> &'static [u8]
@@ -64,7 +51,7 @@ impl Refusal {
     }
 
     /// The status of a call that was refused.
-    fn status(self) -> u8
+    pub fn status(self) -> u8
         ensures { result ≡ refused_status self }
     {
         match self {
@@ -72,20 +59,6 @@ impl Refusal {
             Refusal::NoMemory => STATUS_NO_MEMORY,
             Refusal::ReadFault => STATUS_READ_FAULT,
             Refusal::SourceTooLong | Refusal::SourceNotBuilt => STATUS_SOURCE,
-        }
-    }
-}
-
-impl Ending {
-    /// The status that the program ends with.
-    pub fn status(self) -> u8
-        ensures { result ≡ status_of self }
-    {
-        match self {
-            Ending::Holds => STATUS_HOLDS,
-            Ending::CheckFails => STATUS_CHECK_FAILS,
-            Ending::WriteFault => STATUS_WRITE_FAULT,
-            Ending::Refused(refusal) => refusal.status(),
         }
     }
 }

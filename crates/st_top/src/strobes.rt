@@ -1,10 +1,18 @@
 //! The top call.
+ghost use Rattle.std.specs.Prelude.{◌≡◌, Some, None, IfOk, IfErr, IfSome, IfNone};
+ghost use Rattle.st_top.specs.Causes.{HasCause};
+ghost use Rattle.st_top.specs.Endings.{line_of, refused_status};
+ghost use Rattle.st_top.specs.Outcomes.{IsReported, IsRefused};
+ghost use Rattle.st_top.specs.Putting.{IsPut, IsLinePut};
+ghost use Rattle.st_top.specs.Report.{joined, run_status};
+ghost use Rattle.st_top.specs.Sources.{IsRunOf, source_of};
+ghost use Rattle.st_top.specs.Words.{named_file, texts};
 
-use crate::endings::{Ending, Refusal};
+use crate::endings::{Refusal, STATUS_CHECK_FAILS, STATUS_HOLDS, STATUS_WRITE_FAULT};
 use crate::outcomes::Outcome;
 use crate::sources::{Finished, run_file};
 use crate::tallies::some_fails;
-use crate::words::named_file;
+use crate::words::file_named;
 use crate::writing::put_lines;
 use st_events::Ran;
 use st_io::{Files, Pace, Sink};
@@ -29,12 +37,14 @@ pub fn strobe<R: Threads + Wait + Sync, F: Files, S: Sink, P: Pace + Sync>(
 }
 
 /// What the call does, on one thread.
-fn answer<F: Files, S: Sink>(
-    alloc: Global,
-    words: &[String],
-    files: &mut F,
-    out: &mut S,
-) -> Outcome {
+fn answer<F: Files, S: Sink>(alloc: Global, words: &[String], files: &mut F, out: &mut S) -> Outcome
+    ensures run { IfSome result.ran (λ ran. IsReported (source_of (F.told files.old) (texts words.now)) result.status ran
+        (S.written out.old) (S.written out.new) (S.faults out.old) (S.faults out.new)) }
+    ensures refused { IfNone result.ran (IsRefused (named_file (texts words.now)) (source_of (F.told files.old) (texts words.now))
+        (record { faults = F.faults files.old; taken = F.taken files.old })
+        (record { faults = F.faults files.new; taken = F.taken files.new }) result.status
+        (S.written out.old) (S.written out.new) (S.faults out.old) (S.faults out.new)) }
+{
     match run_words(alloc, words, files) {
         Ok(finished) => publish(finished, out),
         Err(refusal) => refuse(refusal, out),
@@ -42,43 +52,57 @@ fn answer<F: Files, S: Sink>(
 }
 
 /// Runs the source that the words name.
-fn run_words<F: Files>(
-    alloc: Global,
-    words: &[String],
-    files: &mut F,
-) -> Result<Finished, Refusal> {
-    match named_file(words) {
+fn run_words<F: Files>(alloc: Global, words: &[String], files: &mut F) -> Result<Finished, Refusal>
+    ensures right { IfOk result (λ finished. IsRunOf (source_of (F.told files.old) (texts words.now)) finished.ran finished.report) }
+    ensures cause { IfErr result (λ refusal. HasCause (named_file (texts words.now)) (source_of (F.told files.old) (texts words.now))
+        (record { faults = F.faults files.old; taken = F.taken files.old })
+        (record { faults = F.faults files.new; taken = F.taken files.new }) refusal) }
+{
+    match file_named(words) {
         Some(name) => run_file(alloc, files, name),
         None => Err(Refusal::Words),
     }
 }
 
 /// Writes the report of a run.
-fn publish<S: Sink>(finished: Finished, out: &mut S) -> Outcome {
-    let ending = match put_lines(out, finished.report.lines()) {
-        Ok(()) => run_ending(&finished.ran),
-        Err(_) => Ending::WriteFault,
-    };
-    Outcome {
-        status: ending.status(),
-        ran: Some(finished.ran),
+fn publish<S: Sink>(finished: Finished, out: &mut S) -> Outcome
+    ensures ran { result.ran ≡ Some finished.ran }
+    ensures put { IsPut result.status finished.ran (joined finished.report)
+        (S.written out.old) (S.written out.new) (S.faults out.old) (S.faults out.new) }
+{
+    match put_lines(out, finished.report.lines()) {
+        Ok(()) => Outcome {
+            status: run_status(&finished.ran),
+            ran: Some(finished.ran),
+        },
+        Err(_) => Outcome {
+            status: STATUS_WRITE_FAULT,
+            ran: Some(finished.ran),
+        },
     }
 }
 
-/// How a run ended whose report was written.
-fn run_ending(ran: &Ran) -> Ending {
+/// The status of a run whose report was written.
+#[tactic(auto, unfolding(crate::specs::Report::run_status))]
+fn run_status(ran: &Ran) -> u8
+    ensures { result ≡ run_status ran.now }
+{
     if some_fails(&ran.verdicts) {
-        Ending::CheckFails
+        STATUS_CHECK_FAILS
     } else {
-        Ending::Holds
+        STATUS_HOLDS
     }
 }
 
 /// Writes the line of a refusal. Where that fails, the refusal stands all the same.
-fn refuse<S: Sink>(refusal: Refusal, out: &mut S) -> Outcome {
+fn refuse<S: Sink>(refusal: Refusal, out: &mut S) -> Outcome
+    ensures ran { result.ran ≡ None }
+    ensures status { result.status ≡ refused_status refusal }
+    ensures line { IsLinePut (line_of refusal) (S.written out.old) (S.written out.new) (S.faults out.old) (S.faults out.new) }
+{
     let _unheard = out.put(refusal.line());
     Outcome {
-        status: Ending::Refused(refusal).status(),
+        status: refusal.status(),
         ran: None,
     }
 }
