@@ -1,5 +1,5 @@
 -- Why a call comes to no run.
-use Rattle.std.specs.Prelude.{◌≡◌, ℕ, ◌+◌, ◌<◌, ◌≤◌, List, length, Option, None, IfSome}
+use Rattle.std.specs.Prelude.{◌≡◌, ℕ, ◌+◌, ◌<◌, ◌≤◌, List, length, Option, None, IsSome, IfSome}
 use Rattle.st_io.specs.Counts.{RoseBy}
 use Rattle.st_io.specs.Device.{Counted}
 use Rattle.st_lex.specs.declared.limits.TheConstants.{MOST_SOURCE_BYTES}
@@ -17,11 +17,11 @@ pub record IsNotBuilt (text : List ℕ) : Type 0 where
 -- before and after the call
 abbrev pub HasCause : Option (List ℕ) → Option (List ℕ) → Counted → Counted → Refusal → Type 0
 HasCause named source before now Words = named ≡ None
-HasCause named source before now NoMemory = Unit {0}
-HasCause named source before now ReadFault = RoseBy 1 before.faults now.faults
+HasCause named source before now NoMemory = IsSome named
+HasCause named source before now ReadFault = IsSome named × RoseBy 1 before.faults now.faults
 HasCause named source before now SourceTooLong =
-    RoseBy (MOST_SOURCE_BYTES + 1) before.taken now.taken × IfSome source (λ text. MOST_SOURCE_BYTES < length text)
-HasCause named source before now SourceNotBuilt = IfSome source IsNotBuilt
+    IsSome named × RoseBy (MOST_SOURCE_BYTES + 1) before.taken now.taken × IfSome source (λ text. MOST_SOURCE_BYTES < length text)
+HasCause named source before now SourceNotBuilt = IsSome named × IfSome source IsNotBuilt
 
 -- why a text comes to no run
 abbrev pub IsBuildRefusal : List ℕ → Refusal → Type 0

@@ -1,5 +1,5 @@
 -- What a call leaves, with a run and without one.
-use Rattle.std.specs.Prelude.{◌≡◌, ◌≢◌, ℕ, ◌⊎◌, List, Option, IfSome}
+use Rattle.std.specs.Prelude.{◌≡◌, ◌≢◌, ℕ, ◌⊎◌, List, Option, IsSome, IfSome}
 use Rattle.st_events.specs.Ran.{RanLists}
 use Rattle.st_events.specs.Sizes.{usual_sizes}
 use Rattle.st_io.specs.Device.{Counted}
@@ -13,9 +13,10 @@ use Rattle.st_top.specs.Sources.{IsSourceOf, IsAccepted}
 use Rattle.st_top.specs.declared.endings.Refusal.{Refusal}
 use Rattle.st_top.specs.declared.endings.TheConstants.{STATUS_HOLDS, STATUS_CHECK_FAILS, STATUS_SOURCE, STATUS_READ_FAULT, STATUS_WRITE_FAULT, STATUS_NO_MEMORY}
 
--- there was a run: a right run of the program of the source, where this is told, with the usual sizes; and its report was
+-- there was a run: the words name a file; it was a right run of the program of the source, where this is told, with the usual sizes; and its report was
 -- put, whole or cut off
-pub record IsReported (source : Option (List ℕ)) (status : ℕ) (ran : RanLists) (written-before written-now : Option (List ℕ)) (faults-before faults-now : ℕ) : Type 0 where
+pub record IsReported (named source : Option (List ℕ)) (status : ℕ) (ran : RanLists) (written-before written-now : Option (List ℕ)) (faults-before faults-now : ℕ) : Type 0 where
+  pub words : IsSome named
   pub program : SmallLists
   pub of_source : IfSome source (λ text. IsSourceOf text program)
   pub right : IsRightRun program (usual_sizes 1) ran
@@ -29,7 +30,7 @@ pub record IsRefused (named source : Option (List ℕ)) (before now : Counted) (
   pub line : IsLinePut (line_of refusal) written-before written-now faults-before faults-now
 
 -- the status is one of those with a run
-abbrev pub IsStatusOfRun : ℕ → Type 0
+unfoldable pub IsStatusOfRun : ℕ → Type 0
 IsStatusOfRun status = (status ≡ STATUS_HOLDS) ⊎ (status ≡ STATUS_CHECK_FAILS) ⊎ (status ≡ STATUS_WRITE_FAULT)
 
 -- the status tells that a source is refused only where it is, and wherever it is but for a fault or want of memory

@@ -1,5 +1,5 @@
 -- Sources that can be run, and what a run of one is.
-use Rattle.std.specs.Prelude.{◌≡◌, ℕ, ◌≤◌, List, length, Option, IfSome, option_and_then}
+use Rattle.std.specs.Prelude.{◌≡◌, ℕ, ◌≤◌, List, length, Option, IsSome, IfSome, option_and_then}
 use Rattle.st_events.specs.Ran.{RanLists}
 use Rattle.st_events.specs.Sizes.{usual_sizes}
 use Rattle.st_lex.specs.declared.limits.TheConstants.{MOST_SOURCE_BYTES}
@@ -22,8 +22,10 @@ pub record IsSourceOf (text : List ℕ) (program : SmallLists) : Type 0 where
 unfoldable pub IsAccepted : List ℕ → Type 0
 IsAccepted text = (program : SmallLists) × IsSourceOf text program
 
--- a run of a program, which is that of the source where this is told, came to its end, and these are the lines of its report
-pub record IsRunOf (source : Option (List ℕ)) (ran : RanLists) (report : List (List ℕ)) : Type 0 where
+-- the words name a file, a run of its program, which is that of its source where this is told, came to its end, and these are
+-- the lines of its report
+pub record IsRunOf (named source : Option (List ℕ)) (ran : RanLists) (report : List (List ℕ)) : Type 0 where
+  pub words : IsSome named
   pub program : SmallLists
   pub of_source : IfSome source (λ text. IsSourceOf text program)
   pub right : IsRightRun program (usual_sizes 1) ran

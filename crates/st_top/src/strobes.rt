@@ -1,14 +1,17 @@
 //! The top call.
-ghost use Rattle.std.specs.Prelude.{◌≡◌, Some, None, IfOk, IfErr, IfSome, IfNone};
+ghost use Rattle.std.specs.Prelude.{◌≡◌, ◌≢◌, ◌↔◌, IsTrue, IsSome, Some, None, IfOk, IfErr, IfSome, IfNone};
+ghost use Rattle.st_io.specs.Counts.{RoseBy};
 ghost use Rattle.st_top.specs.Causes.{HasCause};
 ghost use Rattle.st_top.specs.Endings.{line_of, refused_status};
-ghost use Rattle.st_top.specs.Outcomes.{IsReported, IsRefused};
+ghost use Rattle.st_top.specs.Outcomes.{IsReported, IsRefused, IsRefusedExactly, IsStatusOfRun};
 ghost use Rattle.st_top.specs.Putting.{IsPut, IsLinePut};
-ghost use Rattle.st_top.specs.Report.{joined, run_status};
+ghost use Rattle.st_top.specs.Report.{joined, run_status, some_fails};
 ghost use Rattle.st_top.specs.Sources.{IsRunOf, source_of};
 ghost use Rattle.st_top.specs.Words.{named_file, texts};
 
-use crate::endings::{Refusal, STATUS_CHECK_FAILS, STATUS_HOLDS, STATUS_WRITE_FAULT};
+use crate::endings::{
+    Refusal, STATUS_CHECK_FAILS, STATUS_HOLDS, STATUS_READ_FAULT, STATUS_WORDS, STATUS_WRITE_FAULT,
+};
 use crate::outcomes::Outcome;
 use crate::sources::{Finished, run_file};
 use crate::tallies::some_fails;
@@ -32,13 +35,32 @@ pub fn strobe<R: Threads + Wait + Sync, F: Files, S: Sink, P: Pace + Sync>(
     files: &mut F,
     out: &mut S,
     _pace: &P,
-) -> Outcome {
+) -> Outcome
+    // The cause of each status: the words are decided first, and nothing ties want of memory.
+    ensures words { (result.status ≡ STATUS_WORDS) ↔ (named_file (texts words.now) ≡ None) }
+    ensures source { IfSome (source_of (F.told files.old) (texts words.now)) (λ text. IsRefusedExactly text result.status) }
+    ensures read_fault { result.status ≡ STATUS_READ_FAULT → RoseBy 1 (F.faults files.old) (F.faults files.new) }
+    ensures write_fault { result.status ≡ STATUS_WRITE_FAULT → RoseBy 1 (S.faults out.old) (S.faults out.new) }
+    ensures check_fails { IfSome result.ran (λ ran. result.status ≢ STATUS_WRITE_FAULT
+        → ((result.status ≡ STATUS_CHECK_FAILS) ↔ IsTrue (some_fails ran.verdicts))) }
+
+    // There is a run with the statuses 0, 1 and 6: a right one, and its report was put. Else one line was put.
+    ensures ran { IsSome result.ran ↔ IsStatusOfRun result.status }
+    ensures run { IfSome result.ran (λ ran. IsReported (named_file (texts words.now))
+        (source_of (F.told files.old) (texts words.now)) result.status ran
+        (S.written out.old) (S.written out.new) (S.faults out.old) (S.faults out.new)) }
+    ensures refused { IfNone result.ran (IsRefused (named_file (texts words.now))
+        (source_of (F.told files.old) (texts words.now))
+        (record { faults = F.faults files.old; taken = F.taken files.old })
+        (record { faults = F.faults files.new; taken = F.taken files.new }) result.status
+        (S.written out.old) (S.written out.new) (S.faults out.old) (S.faults out.new)) }
+{
     answer(alloc, words, files, out)
 }
 
 /// What the call does, on one thread.
 fn answer<F: Files, S: Sink>(alloc: Global, words: &[String], files: &mut F, out: &mut S) -> Outcome
-    ensures run { IfSome result.ran (λ ran. IsReported (source_of (F.told files.old) (texts words.now)) result.status ran
+    ensures run { IfSome result.ran (λ ran. IsReported (named_file (texts words.now)) (source_of (F.told files.old) (texts words.now)) result.status ran
         (S.written out.old) (S.written out.new) (S.faults out.old) (S.faults out.new)) }
     ensures refused { IfNone result.ran (IsRefused (named_file (texts words.now)) (source_of (F.told files.old) (texts words.now))
         (record { faults = F.faults files.old; taken = F.taken files.old })
@@ -53,7 +75,7 @@ fn answer<F: Files, S: Sink>(alloc: Global, words: &[String], files: &mut F, out
 
 /// Runs the source that the words name.
 fn run_words<F: Files>(alloc: Global, words: &[String], files: &mut F) -> Result<Finished, Refusal>
-    ensures right { IfOk result (λ finished. IsRunOf (source_of (F.told files.old) (texts words.now)) finished.ran finished.report) }
+    ensures right { IfOk result (λ finished. IsRunOf (named_file (texts words.now)) (source_of (F.told files.old) (texts words.now)) finished.ran finished.report) }
     ensures cause { IfErr result (λ refusal. HasCause (named_file (texts words.now)) (source_of (F.told files.old) (texts words.now))
         (record { faults = F.faults files.old; taken = F.taken files.old })
         (record { faults = F.faults files.new; taken = F.taken files.new }) refusal) }
