@@ -8,7 +8,9 @@ use Rattle.st_top.specs.Endings.{refused_status}
 use Rattle.st_top.specs.Outcomes.{IsReported, IsRefused, IsStatusOfRun, IsRefusedExactly}
 use Rattle.st_top.specs.Putting.{IsPut, IsPutWhole, IsCutOff}
 use Rattle.st_top.specs.Report.{joined, report_text, run_status, some_fails}
-use Rattle.st_top.specs.Sources.{IsRunOf, IsSourceOf, IsAccepted}
+use Rattle.std.specs.Option.{option_and_then}
+use Rattle.st_top.specs.Sources.{IsRunOf, IsAccepted, source_of}
+use Rattle.st_top.specs.Words.{named_file}
 use Rattle.st_top.specs.declared.endings.Refusal.{Refusal}
 use Rattle.st_top.specs.declared.endings.Refusal.TheVariants.{Words, NoMemory, ReadFault, SourceTooLong, SourceNotBuilt}
 
@@ -43,7 +45,7 @@ words-decided named source before now status (Some r) wb wn fb fn run refused = 
   where
     not_words : status ≡ 2 → ⊥
     not_words is = elim run.report [
-      inl w ↦ elim (whole-status status r w.as_run) [ inl p ↦ (let a = p.0 in omega arith) | inr p ↦ (let a = p.0 in omega arith) ]
+      | inl w ↦ elim (whole-status status r w.as_run) [ inl p ↦ (let a = p.0 in omega arith) | inr p ↦ (let a = p.0 in omega arith) ]
       | inr w ↦ (let a = w.as_fault in omega arith)
     ]
 words-decided named source before now status None wb wn fb fn run refused = by_cause refused.refusal refused.as_refusal refused.cause
@@ -61,9 +63,9 @@ pub read_fault-counted : (named source : Option (List ℕ)) (before now : Counte
     → IfNone ran (IsRefused named source before now status wb wn fb fn)
     → status ≡ 5 → RoseBy 1 before.faults now.faults
 read_fault-counted named source before now status (Some r) wb wn fb fn run refused five = elim run.report [
-    inl w ↦ elim (whole-status status r w.as_run) [ inl p ↦ (let a = p.0 in absurd (omega arith)) | inr p ↦ (let a = p.0 in absurd (omega arith)) ]
-    | inr w ↦ (let a = w.as_fault in absurd (omega arith))
-  ]
+  | inl w ↦ elim (whole-status status r w.as_run) [ inl p ↦ (let a = p.0 in absurd (omega arith)) | inr p ↦ (let a = p.0 in absurd (omega arith)) ]
+  | inr w ↦ (let a = w.as_fault in absurd (omega arith))
+]
 read_fault-counted named source before now status None wb wn fb fn run refused five = by_cause refused.refusal refused.as_refusal refused.cause
   where
     by_cause : (refusal : Refusal) → status ≡ refused_status refusal → HasCause named source before now refusal → RoseBy 1 before.faults now.faults
@@ -79,9 +81,9 @@ pub write_fault-counted : (named source : Option (List ℕ)) (before now : Count
     → IfNone ran (IsRefused named source before now status wb wn fb fn)
     → status ≡ 6 → RoseBy 1 fb fn
 write_fault-counted named source before now status (Some r) wb wn fb fn run refused six = elim run.report [
-    inl w ↦ elim (whole-status status r w.as_run) [ inl p ↦ (let a = p.0 in absurd (omega arith)) | inr p ↦ (let a = p.0 in absurd (omega arith)) ]
-    | inr w ↦ w.faults
-  ]
+  | inl w ↦ elim (whole-status status r w.as_run) [ inl p ↦ (let a = p.0 in absurd (omega arith)) | inr p ↦ (let a = p.0 in absurd (omega arith)) ]
+  | inr w ↦ w.faults
+]
 write_fault-counted named source before now status None wb wn fb fn run refused six = absurd (by_cause refused.refusal refused.as_refusal)
   where
     by_cause : (refusal : Refusal) → status ≡ refused_status refusal → ⊥
@@ -97,12 +99,12 @@ pub check_fails-exactly : (named source : Option (List ℕ)) (status : ℕ) (ran
     → IfSome ran (λ r. status ≢ 6 → (status ≡ 1) ↔ IsTrue (some_fails r.verdicts))
 check_fails-exactly named source status None wb wn fb fn run = tt
 check_fails-exactly named source status (Some r) wb wn fb fn run = λ not_six. elim run.report [
-    inl w ↦ elim (whole-status status r w.as_run) [
-      inl p ↦ (let a = p.0 in let b = p.1 in (λ one. absurd (omega arith), λ some. absurd (false_is_true _ b some)))
-      | inr p ↦ (λ _. p.1, λ _. p.0)
-    ]
-    | inr w ↦ absurd (not_six w.as_fault)
+  | inl w ↦ elim (whole-status status r w.as_run) [
+    | inl p ↦ (let a = p.0 in let b = p.1 in (λ one. absurd (omega arith), λ some. absurd (false_is_true _ b some)))
+    | inr p ↦ (λ _. p.1, λ _. p.0)
   ]
+  | inr w ↦ absurd (not_six w.as_fault)
+]
   where
     false_is_true : (b : Bool) → b ≡ false → IsTrue b → ⊥
     false_is_true b e h = cc
@@ -117,9 +119,9 @@ ran-exactly named source before now status (Some r) wb wn fb fn run refused = (�
   where
     status_is : (status ≡ 0) ⊎ (status ≡ 1) ⊎ (status ≡ 6)
     status_is = elim run.report [
-        inl w ↦ elim (whole-status status r w.as_run) [ inl p ↦ inl p.0 | inr p ↦ inr (inl p.0) ]
-        | inr w ↦ inr (inr w.as_fault)
-      ]
+      | inl w ↦ elim (whole-status status r w.as_run) [ inl p ↦ inl p.0 | inr p ↦ inr (inl p.0) ]
+      | inr w ↦ inr (inr w.as_fault)
+    ]
 ran-exactly named source before now status None wb wn fb fn run refused = (λ is. cc, λ is. absurd (by_cause refused.refusal refused.as_refusal is))
   where
     by_cause : (refusal : Refusal) → status ≡ refused_status refusal → (status ≡ 0) ⊎ (status ≡ 1) ⊎ (status ≡ 6) → ⊥
@@ -142,9 +144,9 @@ refused-exactly named (Some text) before now status (Some r) wb wn fb fn names r
   where
     not_three : status ≡ 3 → ⊥
     not_three three = elim run.report [
-        inl w ↦ elim (whole-status status r w.as_run) [ inl p ↦ (let a = p.0 in omega arith) | inr p ↦ (let a = p.0 in omega arith) ]
-        | inr w ↦ (let a = w.as_fault in omega arith)
-      ]
+      | inl w ↦ elim (whole-status status r w.as_run) [ inl p ↦ (let a = p.0 in omega arith) | inr p ↦ (let a = p.0 in omega arith) ]
+      | inr w ↦ (let a = w.as_fault in omega arith)
+    ]
 refused-exactly named (Some text) before now status None wb wn fb fn names run refused = by_cause refused.refusal refused.as_refusal refused.cause
   where
     by_cause : (refusal : Refusal) → status ≡ refused_status refusal → HasCause named (Some text) before now refusal → IsRefusedExactly text status
@@ -153,3 +155,11 @@ refused-exactly named (Some text) before now status None wb wn fb fn names run r
     by_cause ReadFault is cause = record { only = λ three. absurd (omega arith); wherever = λ _ not_five _. absurd (not_five is) }
     by_cause SourceTooLong is cause = record { only = λ _ accepted. (let small = accepted.1.size in let long = cause.2 in omega arith); wherever = λ _ _ _. is }
     by_cause SourceNotBuilt is cause = record { only = λ _ accepted. cause.1.form accepted.0 accepted.1.form; wherever = λ _ _ _. is }
+
+-- where a source is told, the words name a file
+pub told-named : (told : List ℕ → Option (List ℕ)) (words : List (List ℕ)) → IsSome (source_of told words) → IsSome (named_file words)
+told-named told words is = go (named_file words) is
+  where
+    go : (named : Option (List ℕ)) → IsSome (option_and_then told named) → IsSome named
+    go None h = cc
+    go (Some file) h = refl
