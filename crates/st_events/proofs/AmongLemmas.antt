@@ -28,14 +28,16 @@ same_number a = elim (eqb_tells a a) [ inl e ↦ e.0 | inr e ↦ absurd (e.1 ref
 pub is_among-snoc : (ns : List ℕ) (k n : ℕ) → is_among (ns ++ k ∷ []) n ≡ true → (is_among ns n ≡ true) ⊎ (n ≡ k)
 is_among-snoc [] k n h = elim (or_cases (k == n) false h) [ inl e ↦ inr (sym (same_numbers k n e)) | inr f ↦ cc ]
 is_among-snoc (x ∷ xs) k n h = elim (or_cases (x == n) (is_among (xs ++ k ∷ []) n) h) [
-    inl e ↦ inl (or_first (x == n) (is_among xs n) e)
-  | inr r ↦ elim (is_among-snoc xs k n r) [ inl a ↦ inl (or_second (x == n) (is_among xs n) a) | inr e ↦ inr e ] ]
+  | inl e ↦ inl (or_first (x == n) (is_among xs n) e)
+  | inr r ↦ elim (is_among-snoc xs k n r) [ inl a ↦ inl (or_second (x == n) (is_among xs n) a) | inr e ↦ inr e ]
+]
 
 pub is_among-front : (ns ks : List ℕ) (n : ℕ) → is_among ns n ≡ true → is_among (ns ++ ks) n ≡ true
 is_among-front [] ks n h = cc
 is_among-front (x ∷ xs) ks n h = elim (or_cases (x == n) (is_among xs n) h) [
-    inl e ↦ or_first (x == n) (is_among (xs ++ ks) n) e
-  | inr r ↦ or_second (x == n) (is_among (xs ++ ks) n) (is_among-front xs ks n r) ]
+  | inl e ↦ or_first (x == n) (is_among (xs ++ ks) n) e
+  | inr r ↦ or_second (x == n) (is_among (xs ++ ks) n) (is_among-front xs ks n r)
+]
 
 pub is_among-back : (ns ks : List ℕ) (n : ℕ) → is_among ks n ≡ true → is_among (ns ++ ks) n ≡ true
 is_among-back [] ks n h = h
@@ -48,8 +50,9 @@ is_among-filter p (x ∷ xs) n h = cases (is_among-filter p xs n) (p x) refl h
   where
     cases : (is_among (filter p xs) n ≡ true → (is_among xs n ≡ true) × (p n ≡ true)) → (b : Bool) → p x ≡ b → is_among (cond b (x ∷ filter p xs) (filter p xs)) n ≡ true → (is_among (x ∷ xs) n ≡ true) × (p n ≡ true)
     cases others true t g = elim (or_cases (x == n) (is_among (filter p xs) n) g) [
-        inl e ↦ (or_first (x == n) (is_among xs n) e, ap p (sym (same_numbers x n e)) ∙ t)
-      | inr r ↦ (let i = others r in (or_second (x == n) (is_among xs n) i.0, i.1)) ]
+      | inl e ↦ (or_first (x == n) (is_among xs n) e, ap p (sym (same_numbers x n e)) ∙ t)
+      | inr r ↦ (let i = others r in (or_second (x == n) (is_among xs n) i.0, i.1))
+    ]
     cases others false t g = let i = others g in (or_second (x == n) (is_among xs n) i.0, i.1)
 
 pub filter-is_among : (p : ℕ → Bool) (ns : List ℕ) (n : ℕ) → is_among ns n ≡ true → p n ≡ true → is_among (filter p ns) n ≡ true

@@ -1,10 +1,13 @@
+pub mod AlikeLemmas
 mod AllLemmas
 pub mod AmongLemmas
 mod CellLemmas
 mod Examples
+pub mod ExtendsLemmas
 pub mod HeapLemmas
 pub mod KeptLemmas
 pub mod LegalLemmas
+mod ReplayLemmas
 mod ShapeLemmas
 pub mod SoundChecks
 pub mod SoundCopies

@@ -42,12 +42,12 @@ noted-needing sizes w obj field value some a c p n h =
 
 pub copies-changed : (sizes : Sizes) (w : World) (obj field value : ℕ) → IsSome (w.heap obj) → AreLaunches w → AreActive sizes w → ArePasts w → AreCopies sizes w → AreCopies sizes (changed sizes w obj field value)
 copies-changed sizes w obj field value some a c p r = record {
-    copies = few (is_full sizes w) refl;
-    kept_active = λ o n h. active (is_full sizes w) o n h;
-    kept_noted = λ o n h. noted_kept (is_full sizes w) o n h;
-    lost_noted = λ o n h. noted_lost (is_full sizes w) o n h;
-    whole = λ o n act i. whole (is_full sizes w) o n act i
-  }
+  copies = few (is_full sizes w) refl;
+  kept_active = λ o n h. active (is_full sizes w) o n h;
+  kept_noted = λ o n h. noted_kept (is_full sizes w) o n h;
+  lost_noted = λ o n h. noted_lost (is_full sizes w) o n h;
+  whole = λ o n act i. whole (is_full sizes w) o n act i;
+}
   where
     few : (b : Bool) → is_full sizes w ≡ b → length (cond b w.kept (w.kept ++ row_if_needed obj (needing_in w obj))) ≤ sizes.copies
     few true e = r.copies
@@ -56,35 +56,46 @@ copies-changed sizes w obj field value some a c p r = record {
         room : (t : Bool) → nat_lt (length w.kept) sizes.copies ≡ t → not t ≡ false → length w.kept < sizes.copies
         room true e f = lt_of (length w.kept) sizes.copies e
         room false e f = cc
+
     active : (b : Bool) (o n : ℕ) → is_kept (cond b w.kept (w.kept ++ row_if_needed obj (needing_in w obj))) o n ≡ true → is_among w.active n ≡ true
     active true o n h = r.kept_active o n h
     active false o n h = elim (is_kept-append w.kept (row_if_needed obj (needing_in w obj)) o n h) [
-        inl old ↦ r.kept_active o n old
-      | inr new ↦ (is_among-filter (λ k. nat_lt (w.stamp obj) k) w.active n (is_kept-row obj (needing_in w obj) o n new).1).0 ]
+      | inl old ↦ r.kept_active o n old
+      | inr new ↦ (is_among-filter (λ k. nat_lt (w.stamp obj) k) w.active n (is_kept-row obj (needing_in w obj) o n new).1).0
+    ]
+
     noted_kept : (b : Bool) (o n : ℕ) → is_kept (cond b w.kept (w.kept ++ row_if_needed obj (needing_in w obj))) o n ≡ true → IsNoted (changed sizes w obj field value) o n
     noted_kept true o n h = noted-changed sizes w obj field value a o n (r.kept_noted o n h)
     noted_kept false o n h = elim (is_kept-append w.kept (row_if_needed obj (needing_in w obj)) o n h) [
-        inl old ↦ noted-changed sizes w obj field value a o n (r.kept_noted o n old)
-      | inr new ↦ (let k = is_kept-row obj (needing_in w obj) o n new in subst (λ (q : ℕ). IsNoted (changed sizes w obj field value) q n) k.0 (noted-needing sizes w obj field value some a c p n k.1)) ]
+      | inl old ↦ noted-changed sizes w obj field value a o n (r.kept_noted o n old)
+      | inr new ↦ (let k = is_kept-row obj (needing_in w obj) o n new in subst (λ (q : ℕ). IsNoted (changed sizes w obj field value) q n) k.0 (noted-needing sizes w obj field value some a c p n k.1))
+    ]
+
     noted_lost : (b : Bool) (o n : ℕ) → is_lost (cond b (w.lost ++ map (λ k. record { obj = obj; check = k }) (needing_in w obj)) w.lost) o n ≡ true → IsNoted (changed sizes w obj field value) o n
     noted_lost true o n h = elim (is_lost-append w.lost (map (λ k. record { obj = obj; check = k }) (needing_in w obj)) o n h) [
-        inl old ↦ noted-changed sizes w obj field value a o n (r.lost_noted o n old)
-      | inr new ↦ (let k = is_lost-pairs obj (needing_in w obj) o n new in subst (λ (q : ℕ). IsNoted (changed sizes w obj field value) q n) k.0 (noted-needing sizes w obj field value some a c p n k.1)) ]
+      | inl old ↦ noted-changed sizes w obj field value a o n (r.lost_noted o n old)
+      | inr new ↦ (let k = is_lost-pairs obj (needing_in w obj) o n new in subst (λ (q : ℕ). IsNoted (changed sizes w obj field value) q n) k.0 (noted-needing sizes w obj field value some a c p n k.1))
+    ]
     noted_lost false o n h = noted-changed sizes w obj field value a o n (r.lost_noted o n h)
+
     old_found : (b : Bool) (o n : ℕ) → (is_kept w.kept o n ≡ true) ⊎ (is_lost w.lost o n ≡ true) → (is_kept (cond b w.kept (w.kept ++ row_if_needed obj (needing_in w obj))) o n ≡ true) ⊎ (is_lost (cond b (w.lost ++ map (λ k. record { obj = obj; check = k }) (needing_in w obj)) w.lost) o n ≡ true)
     old_found true o n (inl k) = inl k
     old_found true o n (inr l) = inr (is_lost-front w.lost (map (λ k. record { obj = obj; check = k }) (needing_in w obj)) o n l)
     old_found false o n (inl k) = inl (is_kept-front w.kept (row_if_needed obj (needing_in w obj)) o n k)
     old_found false o n (inr l) = inr l
+
     new_found : (b : Bool) (n : ℕ) → is_among (needing_in w obj) n ≡ true → (is_kept (cond b w.kept (w.kept ++ row_if_needed obj (needing_in w obj))) obj n ≡ true) ⊎ (is_lost (cond b (w.lost ++ map (λ k. record { obj = obj; check = k }) (needing_in w obj)) w.lost) obj n ≡ true)
     new_found true n h = inr (is_lost-back w.lost (map (λ k. record { obj = obj; check = k }) (needing_in w obj)) obj n (pairs-is_lost obj (needing_in w obj) n h))
     new_found false n h = inl (is_kept-back w.kept (row_if_needed obj (needing_in w obj)) obj n (row-is_kept obj (needing_in w obj) n h))
+
     whole : (b : Bool) (o n : ℕ) → is_among w.active n ≡ true → IsNoted (changed sizes w obj field value) o n → (is_kept (cond b w.kept (w.kept ++ row_if_needed obj (needing_in w obj))) o n ≡ true) ⊎ (is_lost (cond b (w.lost ++ map (λ k. record { obj = obj; check = k }) (needing_in w obj)) w.lost) o n ≡ true)
     whole b o n act i = elim (eqb_tells o obj) [
-        inl e ↦ elim (below_or (w.stamp obj) n) [
-            inl t ↦ subst (λ (q : ℕ). (is_kept (cond b w.kept (w.kept ++ row_if_needed obj (needing_in w obj))) q n ≡ true) ⊎ (is_lost (cond b (w.lost ++ map (λ k. record { obj = obj; check = k }) (needing_in w obj)) w.lost) q n ≡ true)) (sym e.1) (new_found b n (filter-is_among (λ k. nat_lt (w.stamp obj) k) w.active n act t))
-          | inr before ↦ old_found b o n (r.whole o n act (record { launch = i.launch; launched = i.launched; stood = i.stood; changed = subst (λ (q : ℕ). n ≤ w.stamp q) (sym e.1) before })) ]
-      | inr e ↦ old_found b o n (r.whole o n act (record { launch = i.launch; launched = i.launched; stood = i.stood; changed = subst (λ (k : ℕ). n ≤ k) (at-other obj w.epoch w.stamp o e.1) i.changed })) ]
+      | inl e ↦ elim (below_or (w.stamp obj) n) [
+        | inl t ↦ subst (λ (q : ℕ). (is_kept (cond b w.kept (w.kept ++ row_if_needed obj (needing_in w obj))) q n ≡ true) ⊎ (is_lost (cond b (w.lost ++ map (λ k. record { obj = obj; check = k }) (needing_in w obj)) w.lost) q n ≡ true)) (sym e.1) (new_found b n (filter-is_among (λ k. nat_lt (w.stamp obj) k) w.active n act t))
+        | inr before ↦ old_found b o n (r.whole o n act (record { launch = i.launch; launched = i.launched; stood = i.stood; changed = subst (λ (q : ℕ). n ≤ w.stamp q) (sym e.1) before }))
+      ]
+      | inr e ↦ old_found b o n (r.whole o n act (record { launch = i.launch; launched = i.launched; stood = i.stood; changed = subst (λ (k : ℕ). n ≤ k) (at-other obj w.epoch w.stamp o e.1) i.changed }))
+    ]
 
 -- ---- a new object
 
@@ -94,17 +105,19 @@ unmade_then w obj n l absent a s p h = p.same obj n l h (omega (arith, s.unmade 
 
 pub copies-new : (shape : ShapeLists) (sizes : Sizes) (w : World) (m obj class : ℕ) → w.heap obj ≡ None → AreLaunches w → AreStamps w → ArePasts w → AreCopies sizes w → AreCopies sizes (next shape sizes w (New m obj class))
 copies-new shape sizes w m obj class absent a s p r = record {
-    copies = r.copies;
-    kept_active = r.kept_active;
-    kept_noted = λ o n h. noted o n (r.kept_noted o n h);
-    lost_noted = λ o n h. noted o n (r.lost_noted o n h);
-    whole = λ o n act i. elim (eqb_tells o obj) [
-        inl e ↦ absurd (nothing i.launch (subst (λ (q : ℕ). IsSome (i.launch.past q)) e.1 i.stood) (unmade_then w obj n i.launch absent a s p i.launched))
-      | inr e ↦ r.whole o n act (record { launch = i.launch; launched = i.launched; stood = i.stood; changed = subst (λ (k : ℕ). n ≤ k) (at-other obj w.epoch w.stamp o e.1) i.changed }) ]
-  }
+  copies = r.copies;
+  kept_active = r.kept_active;
+  kept_noted = λ o n h. noted o n (r.kept_noted o n h);
+  lost_noted = λ o n h. noted o n (r.lost_noted o n h);
+  whole = λ o n act i. elim (eqb_tells o obj) [
+    | inl e ↦ absurd (nothing i.launch (subst (λ (q : ℕ). IsSome (i.launch.past q)) e.1 i.stood) (unmade_then w obj n i.launch absent a s p i.launched))
+    | inr e ↦ r.whole o n act (record { launch = i.launch; launched = i.launched; stood = i.stood; changed = subst (λ (k : ℕ). n ≤ k) (at-other obj w.epoch w.stamp o e.1) i.changed })
+  ];
+}
   where
     noted : (o n : ℕ) → IsNoted w o n → IsNoted (next shape sizes w (New m obj class)) o n
     noted o n i = record { launch = i.launch; launched = i.launched; stood = i.stood; changed = stamp_rises w obj o n (a.only n i.launch i.launched).1 i.changed }
+
     nothing : (l : Launched) → IsSome (l.past obj) → l.past obj ≡ None → ⊥
     nothing l some none = let f : is_some {T = Object} None ≡ true = subst (λ (x : Option Object). IsSome x) none some in cc
 
@@ -112,20 +125,23 @@ copies-new shape sizes w m obj class absent a s p r = record {
 
 pub copies-launch : (shape : ShapeLists) (sizes : Sizes) (w : World) (m number site : ℕ) (args : Args) → LegalLaunch shape sizes w m number site args → AreLaunches w → AreStamps w → AreCopies sizes w → AreCopies sizes (next shape sizes w (Launch m number site args))
 copies-launch shape sizes w m number site args l a s r = record {
-    copies = r.copies;
-    kept_active = λ o n h. is_among-front w.active (number ∷ []) n (r.kept_active o n h);
-    kept_noted = λ o n h. noted o n (r.kept_noted o n h);
-    lost_noted = λ o n h. noted o n (r.lost_noted o n h);
-    whole = λ o n act i. elim (eqb_tells n number) [
-        inl e ↦ absurd (omega (arith, e.1, l.next_number, i.changed, s.epoch o))
-      | inr e ↦ r.whole o n (older n e.1 (is_among-snoc w.active number n act)) (record { launch = i.launch; launched = sym (at-other number (Some here) w.launched n e.1) ∙ i.launched; stood = i.stood; changed = i.changed }) ]
-  }
+  copies = r.copies;
+  kept_active = λ o n h. is_among-front w.active (number ∷ []) n (r.kept_active o n h);
+  kept_noted = λ o n h. noted o n (r.kept_noted o n h);
+  lost_noted = λ o n h. noted o n (r.lost_noted o n h);
+  whole = λ o n act i. elim (eqb_tells n number) [
+    | inl e ↦ absurd (omega (arith, e.1, l.next_number, i.changed, s.epoch o))
+    | inr e ↦ r.whole o n (older n e.1 (is_among-snoc w.active number n act)) (record { launch = i.launch; launched = sym (at-other number (Some here) w.launched n e.1) ∙ i.launched; stood = i.stood; changed = i.changed })
+  ];
+}
   where
     here : Launched
     here = record { past = w.heap; thread = m; site = site; args = args }
+
     older : (n : ℕ) → n ≢ number → (is_among w.active n ≡ true) ⊎ (n ≡ number) → is_among w.active n ≡ true
     older n ne (inl h) = h
     older n ne (inr e) = absurd (ne e)
+
     noted : (o n : ℕ) → IsNoted w o n → IsNoted (next shape sizes w (Launch m number site args)) o n
     noted o n i =
         let other : n ≢ number = omega (arith, (a.only n i.launch i.launched).1, l.next_number) in
@@ -135,15 +151,16 @@ copies-launch shape sizes w m number site args l a s r = record {
 
 pub copies-retire : (shape : ShapeLists) (sizes : Sizes) (w : World) (m number : ℕ) → AreCopies sizes w → AreCopies sizes (next shape sizes w (Retire m number))
 copies-retire shape sizes w m number r = record {
-    copies = omega (arith, r.copies, length-released number w.kept);
-    kept_active = λ o n h. let k = is_kept-released number w.kept o n h in without-is_among number w.active n (r.kept_active o n k.0) k.1;
-    kept_noted = λ o n h. noted o n (r.kept_noted o n (is_kept-released number w.kept o n h).0);
-    lost_noted = λ o n h. noted o n (r.lost_noted o n h);
-    whole = λ o n act i. let b = is_among-without number w.active n act in found o n b.1 (r.whole o n b.0 (record { launch = i.launch; launched = i.launched; stood = i.stood; changed = i.changed }))
-  }
+  copies = omega (arith, r.copies, length-released number w.kept);
+  kept_active = λ o n h. let k = is_kept-released number w.kept o n h in without-is_among number w.active n (r.kept_active o n k.0) k.1;
+  kept_noted = λ o n h. noted o n (r.kept_noted o n (is_kept-released number w.kept o n h).0);
+  lost_noted = λ o n h. noted o n (r.lost_noted o n h);
+  whole = λ o n act i. let b = is_among-without number w.active n act in found o n b.1 (r.whole o n b.0 (record { launch = i.launch; launched = i.launched; stood = i.stood; changed = i.changed }));
+}
   where
     noted : (o n : ℕ) → IsNoted w o n → IsNoted (next shape sizes w (Retire m number)) o n
     noted o n i = record { launch = i.launch; launched = i.launched; stood = i.stood; changed = i.changed }
+
     found : (o n : ℕ) → n ≢ number → (is_kept w.kept o n ≡ true) ⊎ (is_lost w.lost o n ≡ true) → (is_kept (released number w.kept) o n ≡ true) ⊎ (is_lost w.lost o n ≡ true)
     found o n ne (inl k) = inl (released-is_kept number w.kept o n k ne)
     found o n ne (inr l) = inr l

@@ -3,8 +3,10 @@ pub mod HeapCell
 pub mod History
 pub mod Journal
 pub mod Kind
+pub mod Laws
 pub mod Legal
 pub mod Ran
+pub mod Seen
 pub mod Shape
 pub mod Sizes
 pub mod Sound

@@ -5,19 +5,26 @@
 mod events;
 mod heaps;
 mod journals;
+mod laws;
 mod limits;
 mod reasons;
 mod refusals;
+mod replaying;
+mod replays;
 mod runs;
 mod shapes;
+#[cfg(test)]
+mod tests;
 mod verdicts;
 
 pub use events::{Args, Event, Site};
-pub use heaps::HeapMap;
+pub use heaps::{FIRST_OF_REGIONS, HeapMap, SHARED_OBJECT};
 pub use journals::Journal;
-pub use limits::Sizes;
-pub use reasons::Why;
+pub use laws::laws_of_journals;
+pub use limits::{MOST_LANES, MOST_MUTATORS, Sizes};
+pub use reasons::{ReplayError, Why};
 pub use refusals::{Lost, NoLane, NoMemory};
+pub use replays::replay;
 pub use runs::Ran;
-pub use shapes::{Kind, Shape};
+pub use shapes::{Kind, MOST_ARGS, MOST_FIELDS, Shape};
 pub use verdicts::{End, Plain, Verdict};

@@ -1,0 +1,13 @@
+use Rattle.st_events.proofs.WorldLemmas.{world_after-snoc}
+use Rattle.st_events.proofs.LegalLemmas.{IsLegal-snoc, IsLegal-prefix}
+use Rattle.st_events.proofs.SoundLemmas.{sound_after}
+use Rattle.st_events.proofs.ExtendsLemmas.{heap_after-extends, launch_of-stays, is_lost-stays}
+use Rattle.st_events.proofs.laws.laws_of_journals.Goals as goal
+
+pub returns : goal.returns
+returns c = record {
+  grow = record { world = world_after-snoc; legal = IsLegal-snoc };
+  prefixes = IsLegal-prefix;
+  sound = sound_after;
+  past = record { cells = heap_after-extends; launches = launch_of-stays; lost = is_lost-stays };
+}

@@ -1,0 +1,10 @@
+//! Laws of all journals, over the definitions of this crate. Nothing is computed: each call states a theorem, by its clauses.
+ghost use Rattle.st_events.specs.Laws.{AreSound, GrowByEvents, HaveLegalPrefixes, KeepThePast};
+
+/// What holds of all journals, however long, of every program and all sizes.
+pub fn laws_of_journals()
+    ensures grow { GrowByEvents }
+    ensures prefixes { HaveLegalPrefixes }
+    ensures sound { AreSound }
+    ensures past { KeepThePast }
+{}
