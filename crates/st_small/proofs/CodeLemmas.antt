@@ -1,5 +1,5 @@
 -- The thread's events follow its code to its end
-use Rattle.std.proofs.Common.{◌≡◌, ℕ, zero, suc, ◌+◌, ◌*◌, ◌-◌, ◌<◌, ◌≤◌, nat_lt, cond, Bool, true, false, List, [], ◌∷◌, ◌++◌, length, slice_get, unwrap_or, Option, Some, None, refl, sym, ◌∙◌, ap, subst, inl, inr, arith, append_assoc, length-append}
+use Rattle.std.proofs.Common.{◌≡◌, ℕ, zero, suc, ◌+◌, ◌*◌, ◌-◌, ◌<◌, ◌≤◌, nat_lt, false, List, [], ◌∷◌, ◌++◌, length, slice_get, unwrap_or, Some, refl, sym, ◌∙◌, ap, inl, inr, arith, append_assoc, length-append}
 use Rattle.std.proofs.lemmas.List.{append-nil}
 use Rattle.std.proofs.lemmas.Bool.{le-ltb}
 use Rattle.std.proofs.lemmas.Bool.Decides.{eqb_tells}
@@ -10,8 +10,8 @@ use Rattle.st_events.specs.History.{own_events}
 use Rattle.st_parse.specs.declared.programs.SmallStmt.{SmallStmt}
 use Rattle.st_parse.specs.declared.programs.SmallStmt.TheVariants.{Make, Put, Check}
 use Rattle.st_parse.specs.Small.{SmallLists}
-use Rattle.st_small.specs.Program.{AreInOrder, checks_of}
-use Rattle.st_small.specs.Code.{Locals, Turn, block_course, turn_of, next_request, value_of, FollowsAfter}
+use Rattle.st_small.specs.Program.{AreInOrder}
+use Rattle.st_small.specs.Code.{Locals, block_course, turn_of, next_request, value_of, FollowsAfter}
 use Rattle.st_small.specs.Running.{Progress, after, classes_of, events_from}
 use Rattle.st_small.proofs.LegalLemmas.{slice_get-seam}
 

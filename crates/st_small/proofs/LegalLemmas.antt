@@ -1,23 +1,21 @@
 -- The journal of a run is legal
-use Rattle.std.proofs.Common.{◌≡◌, ℕ, ◌+◌, ◌*◌, ◌<◌, ◌≤◌, ◌==◌, nat_lt, cond, Bool, true, false, ◌&&◌, List, [], ◌∷◌, ◌++◌, length, map, slice_get, Option, Some, None, IsSome, refl, sym, ◌∙◌, ap, subst, arith, length-append}
+use Rattle.std.proofs.Common.{◌≡◌, ℕ, ◌+◌, ◌==◌, nat_lt, true, false, List, [], ◌∷◌, ◌++◌, length, map, slice_get, Option, Some, None, IsSome, refl, ◌∙◌, ap, arith}
 use Rattle.std.specs.Option.{is_some, option_map}
 use Rattle.std.proofs.lemmas.Bool.{eq-eqb, ne_eqb, lt-ltb, le-leb}
 use Rattle.std.proofs.lemmas.List.{length-map}
 use Rattle.std.proofs.lemmas.Option.{slice_get_within, slice_get-map}
-use Rattle.st_events.specs.declared.events.Event.{Event}
 use Rattle.st_events.specs.declared.events.Event.TheVariants.{New, Store, Launch, Retire}
 use Rattle.st_events.specs.declared.events.Site.{Site}
 use Rattle.st_events.specs.declared.limits.Sizes.{Sizes}
 use Rattle.st_events.specs.declared.shapes.Kind.{Kind}
 use Rattle.st_events.specs.declared.shapes.Kind.TheVariants.{Int, Ref}
-use Rattle.st_events.specs.Heap.{Heap, Object, class_at, word_at, word_of}
-use Rattle.st_events.specs.Shape.{ShapeLists}
+use Rattle.st_events.specs.Heap.{Heap, Object, class_at, word_at}
 use Rattle.st_events.specs.World.{World, next}
-use Rattle.st_events.specs.Legal.{Rule, first_failing, IsLegalNext, IsLegalFrom, fits_cell, has_kind, has_kind_if_any, kind_of, args_fit, is_of_class, next_object}
+use Rattle.st_events.specs.Legal.{IsLegalNext, IsLegalFrom, fits_cell, has_kind_if_any, kind_of, is_of_class, next_object}
 use Rattle.st_parse.specs.declared.programs.SmallStmt.{SmallStmt}
 use Rattle.st_parse.specs.declared.programs.SmallStmt.TheVariants.{Make, Put, Check}
 use Rattle.st_parse.specs.Small.{SmallLists}
-use Rattle.st_small.specs.Program.{Comparison, checks_of, shape_of}
+use Rattle.st_small.specs.Program.{checks_of, shape_of}
 use Rattle.st_small.specs.Code.{one_argument}
 use Rattle.st_small.specs.Running.{HaveRoom, classes_of, events_from}
 use Rattle.st_small.proofs.LocalLemmas.{IsNode, word-of-node}

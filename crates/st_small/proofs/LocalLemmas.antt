@@ -1,17 +1,16 @@
 -- The objects of the locals, on the heap of a run
-use Rattle.std.proofs.Common.{◌≡◌, ℕ, ◌+◌, ◌<◌, ◌≤◌, ◌==◌, cond, Bool, true, false, List, [], ◌∷◌, length, map, slice_get, Option, Some, None, IsSome, refl, sym, ◌∙◌, ap, subst, inl, inr, arith}
+use Rattle.std.proofs.Common.{◌≡◌, ℕ, ◌+◌, ◌<◌, ◌≤◌, ◌==◌, cond, Bool, true, false, List, [], ◌∷◌, length, Option, Some, None, IsSome, refl, sym, ◌∙◌, subst, inl, inr, arith}
 use Rattle.std.specs.Option.{option_map}
-use Rattle.std.specs.Prelude.{slice_set}
 use Rattle.std.proofs.lemmas.List.{length-map, length-set}
 use Rattle.std.proofs.lemmas.Bool.Decides.{eqb_tells}
 use Rattle.std.proofs.lemmas.Option.{slice_get_within, slice_get-get_or}
 use Rattle.st_events.specs.declared.shapes.Kind.{Kind}
 use Rattle.st_events.specs.declared.shapes.Kind.TheVariants.{Int}
-use Rattle.st_events.specs.Heap.{Heap, Object, word_at, word_of, with_object, with_word, set_word, fresh}
+use Rattle.st_events.specs.Heap.{Heap, Object, word_of, with_object, with_word, set_word, fresh}
 use Rattle.st_parse.specs.declared.programs.SmallStmt.{SmallStmt}
 use Rattle.st_parse.specs.declared.programs.SmallStmt.TheVariants.{Make, Put, Check}
 use Rattle.st_small.specs.Program.{AreInOrder}
-use Rattle.st_small.specs.Running.{Progress, classes_of, after, CanDo, CanDoAll, object_of_local}
+use Rattle.st_small.specs.Running.{Progress, classes_of, after, CanDoAll}
 
 -- an object of the declared class
 abbrev pub IsNode : List Kind → Option Object → Type 0

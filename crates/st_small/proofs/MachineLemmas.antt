@@ -1,14 +1,18 @@
 -- What one statement keeps of a machine
-use Rattle.std.proofs.Common.{◌≡◌, ℕ, ◌+◌, ◌<◌, ◌≤◌, List, [], ◌∷◌, ◌++◌, length, drop, get_or, OnOk, Result, Ok, Err, refl, sym, ◌∙◌, ap, subst, append_assoc, length-append, arith}
-use Rattle.std.proofs.Math.Seq.{drop-cons}
+use Rattle.std.proofs.Common.{◌≡◌, ℕ, ◌+◌, ◌≤◌, List, ◌∷◌, ◌++◌, length, OnOk, Result, Ok, Err, ap, append_assoc, length-append, arith}
 use Rattle.st_events.specs.declared.events.Event.{Event}
 use Rattle.st_events.specs.declared.verdicts.Verdict.{Verdict}
-use Rattle.st_events.specs.declared.refusals.NoMemory.{NoMemory}
 use Rattle.st_parse.specs.declared.programs.SmallStmt.{SmallStmt}
 use Rattle.st_parse.specs.declared.programs.SmallStmt.TheVariants.{Make, Put, Check}
 use Rattle.st_small.specs.declared.machines.Machine.{Machine}
 use Rattle.st_small.specs.Running.{events_from, verdicts_from, events_of, verdicts_of, CanDoAll, Progress, after}
-use Rattle.st_small.specs.Machine.{IsStep, HasDoneAtMost, HasLeft, progress_of}
+use Rattle.st_small.specs.Machine.{IsStep, HasDoneAtMost, progress_of}
+
+-- these statements are left to do, and can be done; with what they add, these events and verdicts will be written
+pub record HasLeft (machine : Machine) (statements : List SmallStmt) (all_events : List Event) (all_verdicts : List Verdict) : Type 0 where
+  pub events : machine.journal.events ++ events_from machine.shape (progress_of machine) statements ≡ all_events
+  pub verdicts : machine.verdicts.items ++ verdicts_from machine.shape (progress_of machine) statements ≡ all_verdicts
+  pub can_do : CanDoAll machine.shape (length machine.heap) (progress_of machine) statements
 
 pub OnOk-with : {X Y : Type 0} (r : Result X Y) (P Q : Type 0) → (P → Q) → OnOk r P → OnOk r Q
 OnOk-with (Ok x) P Q f h = f h

@@ -1,19 +1,19 @@
 -- What the functional run of a well-formed program leaves is a right run
-use Rattle.std.proofs.Common.{◌≡◌, ℕ, zero, suc, ◌+◌, ◌*◌, ◌<◌, ◌≤◌, List, [], ◌∷◌, ◌++◌, length, slice_get, unwrap_or, Option, Some, None, All, refl, sym, ◌∙◌, ap, subst, arith}
+use Rattle.std.proofs.Common.{◌≡◌, ℕ, zero, suc, ◌+◌, ◌*◌, List, [], ◌∷◌, ◌++◌, length, slice_get, unwrap_or, Some, All, refl, sym, ◌∙◌, ap, subst, arith}
 use Rattle.std.proofs.lemmas.List.Elements.{All-from_recursion}
 use Rattle.st_events.specs.declared.events.Event.{Event}
 use Rattle.st_events.specs.declared.limits.Sizes.{Sizes}
 use Rattle.st_events.specs.declared.verdicts.End.{End}
 use Rattle.st_events.specs.declared.verdicts.End.TheVariants.{Finished}
 use Rattle.st_events.specs.declared.verdicts.Verdict.{Verdict}
-use Rattle.st_events.specs.History.{own_events, launch_of, epoch_of, active_checks}
+use Rattle.st_events.specs.History.{own_events}
 use Rattle.st_events.specs.Legal.{IsLegal}
 use Rattle.st_events.specs.Ran.{RanLists}
 use Rattle.st_events.specs.Sizes.{usual_sizes}
 use Rattle.st_events.specs.World.{first_world}
 use Rattle.st_parse.specs.Small.{SmallLists}
 use Rattle.st_parse.specs.declared.programs.SmallStmt.{SmallStmt}
-use Rattle.st_small.specs.Program.{IsWellFormed, checks_of, shape_of}
+use Rattle.st_small.specs.Program.{IsWellFormed, shape_of}
 use Rattle.st_small.specs.Code.{Follows}
 use Rattle.st_small.specs.Right.{IsRightRun, IsRightVerdict, IsPlain, IsTruth}
 use Rattle.st_small.specs.Running.{HaveRoom, classes_of, start_of, events_from, verdicts_from, journal_of, all_verdicts_of, run_of, CanDoAll}

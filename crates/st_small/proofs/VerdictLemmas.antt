@@ -1,5 +1,5 @@
 -- The verdicts of a run are those of the heaps at the launches
-use Rattle.std.proofs.Common.{◌≡◌, ℕ, zero, suc, ◌+◌, ◌<◌, ◌≤◌, ◌==◌, cond, Bool, true, false, List, [], ◌∷◌, ◌++◌, length, slice_get, unwrap_or, Option, Some, None, refl, sym, ◌∙◌, ap, subst, arith}
+use Rattle.std.proofs.Common.{◌≡◌, ℕ, zero, suc, ◌+◌, ◌≤◌, Bool, true, false, List, [], ◌∷◌, length, slice_get, unwrap_or, Some, refl, sym, ◌∙◌, ap, subst, arith}
 use Rattle.std.specs.List.{AllByRecursion}
 use Rattle.std.proofs.lemmas.Bool.{eq-eqb, ne_eqb}
 use Rattle.st_events.specs.declared.events.Site.{Site}
@@ -11,7 +11,7 @@ use Rattle.st_events.specs.World.{World, Launched, world_from}
 use Rattle.st_parse.specs.declared.programs.SmallStmt.{SmallStmt}
 use Rattle.st_parse.specs.declared.programs.SmallStmt.TheVariants.{Make, Put, Check}
 use Rattle.st_parse.specs.Small.{SmallLists}
-use Rattle.st_small.specs.Program.{Comparison, checks_of, shape_of, plain_of, comparison_holds, value_on}
+use Rattle.st_small.specs.Program.{shape_of, plain_of, comparison_holds, value_on}
 use Rattle.st_small.specs.Code.{one_argument}
 use Rattle.st_small.specs.Right.{IsValueAtLaunch, IsPlain, IsTruth}
 use Rattle.st_small.specs.Running.{Progress, after, classes_of, events_from, verdicts_from}

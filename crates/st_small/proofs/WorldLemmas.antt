@@ -1,16 +1,14 @@
 -- A run as far as it has come, and what its next statement makes of it
-use Rattle.std.proofs.Common.{◌≡◌, ℕ, ◌+◌, ◌*◌, ◌<◌, ◌≤◌, ◌==◌, cond, not, Bool, true, false, List, [], ◌∷◌, ◌++◌, length, filter, slice_get, Option, Some, None, refl, sym, ◌∙◌, ap, subst, arith, append_assoc, length-append}
+use Rattle.std.proofs.Common.{◌≡◌, ℕ, ◌+◌, ◌≤◌, List, [], ◌∷◌, ◌++◌, length, refl, sym, ◌∙◌, arith, append_assoc, length-append}
 use Rattle.std.proofs.lemmas.Bool.{eq-eqb}
-use Rattle.st_events.specs.declared.events.Event.{Event}
-use Rattle.st_events.specs.declared.events.Event.TheVariants.{New, Store, Launch, Retire}
 use Rattle.st_events.specs.declared.limits.Sizes.{Sizes}
 use Rattle.st_events.specs.Shape.{ShapeLists}
-use Rattle.st_events.specs.World.{World, next, without, world_from}
+use Rattle.st_events.specs.World.{World, without, world_from}
 use Rattle.st_parse.specs.declared.programs.SmallStmt.{SmallStmt}
 use Rattle.st_parse.specs.declared.programs.SmallStmt.TheVariants.{Make, Put, Check}
 use Rattle.st_parse.specs.Small.{SmallLists}
 use Rattle.st_small.specs.Program.{Comparison, AreInOrder, checks_of, shape_of}
-use Rattle.st_small.specs.Running.{HaveRoom, Progress, after, classes_of, events_of, events_from}
+use Rattle.st_small.specs.Running.{Progress, events_of}
 use Rattle.st_small.proofs.LocalLemmas.{HaveObjects, have-objects-after}
 
 -- where a run stands, by what its journal says

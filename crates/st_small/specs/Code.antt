@@ -1,5 +1,5 @@
 -- What a thread does: by big steps over its statements, from the replies that it has had so far.
-use Rattle.std.specs.Prelude.{◌≡◌, ℕ, ◌+◌, ◌-◌, nat_lt, Bool, cond, List, [], ◌∷◌, ◌++◌, length, Option, Some, None, slice_get, unwrap_or}
+use Rattle.std.specs.Prelude.{◌≡◌, ℕ, ◌+◌, ◌-◌, nat_lt, cond, List, [], ◌∷◌, ◌++◌, length, slice_get, unwrap_or}
 use Rattle.st_events.specs.declared.events.Event.{Event}
 use Rattle.st_events.specs.declared.events.Event.TheVariants.{New, Load, Store, Cas, Launch, Retire}
 use Rattle.st_events.specs.declared.events.Args.{Args}
@@ -57,8 +57,9 @@ value_of locals k = unwrap_or (slice_get locals.values k) 0
 abbrev pub one_argument : ℕ → Args
 one_argument value = record { count = 1; words = value ∷ 0 ∷ 0 ∷ 0 ∷ [] }
 
--- One statement; `site` is the number of check statements before it in the source. A `new` never finds the region full,
--- since a program has fewer statements than a region has objects; and no local is null.
+-- One statement; `site` is the number of check statements before it in the source. No `new` finds the region full, since
+-- a program has at most 32 locals and a region, with the usual sizes, 4,096 objects; and no local is null, since it is
+-- made before it is used. So neither end is told here
 abbrev pub statement_course : ℕ → SmallStmt → Locals → List ℕ → Course
 statement_course site Make locals replies =
     paying EVENT_COST locals (λ paid. asking (make NODE_CLASS) replies (λ reply rest. through (record paid { values = paid.values ++ reply ∷ [] }) rest))

@@ -1,12 +1,10 @@
 -- What a machine stands for, and what one statement makes of it.
-use Rattle.std.specs.Prelude.{◌≡◌, ℕ, ◌+◌, ◌*◌, ◌≤◌, List, ◌++◌, length}
-use Rattle.st_events.specs.declared.events.Event.{Event}
-use Rattle.st_events.specs.declared.verdicts.Verdict.{Verdict}
+use Rattle.std.specs.Prelude.{◌≡◌, ℕ, ◌*◌, ◌≤◌, ◌++◌, length}
 use Rattle.st_events.specs.Heap.{heap_of}
 use Rattle.st_parse.specs.declared.programs.SmallStmt.{SmallStmt}
 use Rattle.st_small.specs.declared.limits.TheConstants.{MOST_EVENTS_OF_STATEMENT}
 use Rattle.st_small.specs.declared.machines.Machine.{Machine}
-use Rattle.st_small.specs.Running.{Progress, events_of, verdicts_of, after, events_from, verdicts_from, CanDoAll}
+use Rattle.st_small.specs.Running.{Progress, events_of, verdicts_of, after}
 
 -- where the run of the machine stands
 abbrev pub progress_of : Machine → Progress
@@ -25,9 +23,3 @@ pub record HasDoneAtMost (statements : ℕ) (machine : Machine) : Type 0 where
   pub events : length machine.journal.events ≤ MOST_EVENTS_OF_STATEMENT * statements
   pub made : machine.made ≤ statements
   pub launched : machine.launched ≤ statements
-
--- these statements are left to do, and can be done; with what they add, these events and verdicts will be written
-pub record HasLeft (machine : Machine) (statements : List SmallStmt) (all_events : List Event) (all_verdicts : List Verdict) : Type 0 where
-  pub events : machine.journal.events ++ events_from machine.shape (progress_of machine) statements ≡ all_events
-  pub verdicts : machine.verdicts.items ++ verdicts_from machine.shape (progress_of machine) statements ≡ all_verdicts
-  pub can_do : CanDoAll machine.shape (length machine.heap) (progress_of machine) statements

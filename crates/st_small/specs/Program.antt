@@ -1,5 +1,5 @@
 -- What a small program is to the heap, and the value of its checks.
-use Rattle.std.specs.Prelude.{◌≡◌, ℕ, ◌+◌, ◌<◌, ◌≤◌, zero, suc, Bool, cond, List, [], ◌∷◌, length, map, Option, Some, None, slice_get, slice_index, unwrap_or}
+use Rattle.std.specs.Prelude.{◌≡◌, ℕ, ◌+◌, ◌<◌, ◌≤◌, Bool, cond, List, [], ◌∷◌, length, map, Option, Some, None, slice_get, slice_index}
 use Rattle.st_events.specs.declared.shapes.Kind.{Kind}
 use Rattle.st_events.specs.declared.shapes.Kind.TheVariants.{Int, Ref}
 use Rattle.st_events.specs.declared.shapes.TheConstants.{MOST_FIELDS}
@@ -13,7 +13,8 @@ use Rattle.st_events.specs.Legal.{is_word}
 use Rattle.st_parse.specs.declared.programs.SmallStmt.{SmallStmt}
 use Rattle.st_parse.specs.declared.programs.SmallStmt.TheVariants.{Make, Put, Check}
 use Rattle.st_parse.specs.Small.{SmallLists}
-use Rattle.st_small.specs.declared.limits.TheConstants.{NODE_CLASS, CLASSES, MOST_STATEMENTS}
+use Rattle.st_small.specs.declared.limits.TheConstants.{NODE_CLASS, CLASSES}
+use Rattle.st_parse.specs.declared.limits.TheConstants.{MOST_STATEMENTS}
 
 -- the expression of a check statement: a field of its one argument is compared with a number
 pub record Comparison : Type 0 where

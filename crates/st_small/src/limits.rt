@@ -1,7 +1,5 @@
 //! The numbers of the small source form.
 
-/// The most statements of a small program.
-pub const MOST_STATEMENTS: usize = 1_000;
 /// How many classes there are: that of the shared object, and the declared one.
 pub const CLASSES: usize = 2;
 /// The number of the declared class.

@@ -8,10 +8,10 @@ ghost use Rattle.st_small.specs.Right.{IsRightRun, IsTruth};
 ghost use Rattle.st_small.specs.Running.{CanDoAll, HaveRoom, events_from, verdicts_from, start_of, classes_of, run_of};
 ghost use Rattle.st_small.specs.Machine.{progress_of, HasDoneAtMost};
 
-use crate::limits::{FIRST_OBJECT, MOST_EVENTS_OF_STATEMENT, MOST_STATEMENTS};
+use crate::limits::{FIRST_OBJECT, MOST_EVENTS_OF_STATEMENT};
 use crate::machines::Machine;
 use st_events::{End, HeapMap, Journal, Kind, NoMemory, Ran, Shape, Sizes};
-use st_parse::{Small, SmallStmt};
+use st_parse::{MOST_STATEMENTS, Small, SmallStmt};
 use std::alloc::Global;
 
 /// Runs the program with the usual sizes, to its end. What it leaves is right: one legal history, whole, with the plain

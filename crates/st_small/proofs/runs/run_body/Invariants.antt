@@ -1,6 +1,7 @@
 use Rattle.std.proofs.Common.{◌≡◌, ◌++◌, drop}
 use Rattle.st_small.specs.Running.{events_from, verdicts_from}
-use Rattle.st_small.specs.Machine.{HasDoneAtMost, HasLeft, progress_of}
+use Rattle.st_small.specs.Machine.{HasDoneAtMost, progress_of}
+use Rattle.st_small.proofs.MachineLemmas.{HasLeft}
 use Rattle.st_small.proofs.runs.run_body.Given as goal
 
 abbrev pub invariant-loop-statement : goal.invariant-loop-statement

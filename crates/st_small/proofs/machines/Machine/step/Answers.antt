@@ -1,4 +1,3 @@
-use Rattle.st_small.specs.Machine.{IsStep}
 use Rattle.st_small.proofs.MachineLemmas.{OnOk-with}
 use Rattle.st_small.proofs.machines.Machine.step.Goals as goal
 
