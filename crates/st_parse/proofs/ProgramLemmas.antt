@@ -1,5 +1,5 @@
 -- A program that is read is what it is spelled as, and what a program is spelled as is read.
-use Rattle.std.proofs.Common.{◌≡◌, ◌==◌, ℕ, true, false, List, [], ◌∷◌, ◌++◌, length, Option, Some, None, refl, sym, ap, ◌∙◌, append_assoc, arith}
+use Rattle.std.proofs.Common.{◌≡◌, ◌==◌, ℕ, suc, true, false, List, [], ◌∷◌, ◌++◌, length, Option, Some, None, refl, sym, ap, ◌∙◌, append_assoc, arith}
 use Rattle.std.specs.Prelude.{codes}
 use Rattle.std.specs.List.{flat_map}
 use Rattle.std.proofs.lemmas.Bool.{eqb-true}
@@ -63,8 +63,8 @@ program_takes ts p e =
     let thread = bind_some (head_at (codes "thread") fields.0.1) (λ thread. block_at statement_at thread.1 >>= λ body. ended (record { class = class.0.0; fields = fields.0.0; thread = thread.0; body = body.0 }) body.1) p fields.2 in
     let body = bind_some (block_at statement_at thread.0.1) (λ body. ended (record { class = class.0.0; fields = fields.0.0; thread = thread.0.0; body = body.0 }) body.1) p thread.2 in
     let end = ended_takes (record { class = class.0.0; fields = fields.0.0; thread = thread.0.0; body = body.0.0 }) p body.0.1 body.2 in
-    joined ts class.0 fields.0 thread.0 body.0 p (head_takes (codes "class") ts class.0 class.1) (items_take field_reader _ class.0.1 fields.0 fields.1)
-    (head_takes (codes "thread") fields.0.1 thread.0 thread.1) (items_take statement_reader _ thread.0.1 body.0 body.1) end.0 end.1
+    joined ts class.0 fields.0 thread.0 body.0 p (head_takes (codes "class") ts class.0 class.1) (items_take field_reader (suc (length class.0.1)) class.0.1 fields.0 fields.1)
+    (head_takes (codes "thread") fields.0.1 thread.0 thread.1) (items_take statement_reader (suc (length thread.0.1)) thread.0.1 body.0 body.1) end.0 end.1
 
 pub program_again : (p : Program) → program_at (program_spelling p) ≡ Some p
 program_again p =

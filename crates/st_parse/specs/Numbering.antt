@@ -50,10 +50,14 @@ place_numbers fields locals local field = do
   f ← int_place_of fields field
   Some (l, f)
 
+-- whether a new local may be made so
+abbrev pub is_make_right : List ℕ → List (List ℕ) → List ℕ → List ℕ → List ℕ → Bool
+is_make_right class locals local named made = bytes_eq named class && bytes_eq made class && nat_lt (length locals) MOST_LOCALS && is_none (place_of locals local)
+
 -- a statement where these locals were made before
 unfoldable pub numbered : List ℕ → List Field → List (List ℕ) → Statement → Option SmallStmt
 numbered class fields locals (make_local local kind made) =
-    if bytes_eq kind class && bytes_eq made class && nat_lt (length locals) MOST_LOCALS && is_none (place_of locals local) then Some small.Make else None
+    if is_make_right class locals local kind made then Some small.Make else None
 numbered class fields locals (put_field local field value) = do
   place ← place_numbers fields locals local field
   Some (small.Put place.0 place.1 value)

@@ -2,16 +2,20 @@
 //! It reads the tokens of a text into a program whose locals and fields are numbers.
 #![tactic(auto)]
 
+mod classes;
+mod laws;
 mod limits;
 mod names;
 mod programs;
 mod refusals;
 mod sources;
+mod statements;
 mod symbols;
 mod syntax;
 mod terminals;
 mod trees;
 
+pub use laws::{numbers_within, one_program};
 pub use limits::{MOST_FIELDS, MOST_LOCALS, MOST_STATEMENTS};
 pub use programs::{Small, SmallStmt};
 pub use refusals::SmallError;

@@ -1,5 +1,5 @@
 //! The one call: from the bytes of a text to a program in numbers.
-ghost use Rattle.std.specs.Prelude.{◌≡◌, ◌≤◌, length, IfOk, IsErrOf};
+ghost use Rattle.std.specs.Prelude.{◌≤◌, length, IfOk, IsErrOf};
 ghost use Rattle.st_lex.specs.declared.limits.TheConstants.{MOST_SOURCE_BYTES};
 ghost use Rattle.st_parse.specs.Answers.{program_of};
 ghost use Rattle.st_parse.specs.Reading.{Gives};
@@ -14,11 +14,11 @@ use crate::syntax::program;
 use st_lex::{LexError, tokens};
 use std::alloc::Global;
 
-/// The program of a source of the small form, of at most `MOST_SOURCE_BYTES` bytes. Answers `NotBuilt` for every other text.
+/// The program of a source of the small form, of at most `MOST_SOURCE_BYTES` bytes. Every other text is `NotBuilt`.
+/// No text is the source of two programs: see `one_program`.
 pub fn small(alloc: Global, text: &[u8]) -> Result<Small, SmallError>
     requires { length text.now ≤ MOST_SOURCE_BYTES }
     ensures built { IfOk result (λ program. IsSmallSource text.now program) }
-    ensures only_one { IfOk result (λ program. (other : SmallLists) → IsSmallSource text.now other → other ≡ program) }
     ensures not_built { IsErrOf result SmallError.NotBuilt → (program : SmallLists) → ¬ IsSmallSource text.now program }
 {
     read(alloc, text)
