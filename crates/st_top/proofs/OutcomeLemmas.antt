@@ -4,15 +4,15 @@ use Rattle.st_events.specs.Ran.{RanLists}
 use Rattle.st_io.specs.Counts.{RoseBy}
 use Rattle.st_io.specs.Device.{Counted}
 use Rattle.st_top.specs.Causes.{HasCause, IsNotBuilt}
-use Rattle.st_top.specs.Endings.{refused_status}
+use Rattle.st_top.specs.Refusals.{refused_status}
 use Rattle.st_top.specs.Outcomes.{IsReported, IsRefused, IsStatusOfRun, IsRefusedExactly}
 use Rattle.st_top.specs.Putting.{IsPut, IsPutWhole, IsCutOff}
 use Rattle.st_top.specs.Report.{joined, report_text, run_status, some_fails}
 use Rattle.std.specs.Option.{option_and_then}
 use Rattle.st_top.specs.Sources.{IsRunOf, IsAccepted, source_of}
 use Rattle.st_top.specs.Words.{named_file}
-use Rattle.st_top.specs.declared.endings.Refusal.{Refusal}
-use Rattle.st_top.specs.declared.endings.Refusal.TheVariants.{Words, NoMemory, ReadFault, SourceTooLong, SourceNotBuilt}
+use Rattle.st_top.specs.declared.refusals.Refusal.{Refusal}
+use Rattle.st_top.specs.declared.refusals.Refusal.TheVariants.{Words, NoMemory, ReadFault, SourceTooLong, SourceNotBuilt}
 
 -- a run whose report was put
 pub reported : (named source : Option (List ℕ)) (ran : RanLists) (report : List (List ℕ)) (status : ℕ) (wb wn : Option (List ℕ)) (fb fn : ℕ)
@@ -161,5 +161,34 @@ pub told-named : (told : List ℕ → Option (List ℕ)) (words : List (List ℕ
 told-named told words is = go (named_file words) is
   where
     go : (named : Option (List ℕ)) → IsSome (option_and_then told named) → IsSome named
+    go None h = cc
+    go (Some file) h = refl
+
+-- words and a source that are accepted come to a run, but for faults and want of memory
+pub accepted-runs : (named source : Option (List ℕ)) (text : List ℕ) (before now : Counted) (status : ℕ) (ran : Option RanLists) (wb wn : Option (List ℕ)) (fb fn : ℕ)
+    → IfSome ran (λ r. IsReported named source status r wb wn fb fn)
+    → IfNone ran (IsRefused named source before now status wb wn fb fn)
+    → source ≡ Some text → status ≢ 5 → status ≢ 6
+    → IsSome named → IsAccepted text → (status ≡ 0) ⊎ (status ≡ 1) ⊎ (status ≡ 7)
+unfolding IsAccepted
+accepted-runs named source text before now status (Some r) wb wn fb fn run refused told not_five not_six names accepted = elim run.report [
+  | inl w ↦ elim (whole-status status r w.as_run) [ inl p ↦ inl p.0 | inr p ↦ inr (inl p.0) ]
+  | inr w ↦ absurd (not_six w.as_fault)
+]
+accepted-runs named source text before now status None wb wn fb fn run refused told not_five not_six names accepted =
+    by_cause refused.refusal refused.as_refusal (rw told at refused.cause)
+  where
+    by_cause : (refusal : Refusal) → status ≡ refused_status refusal → HasCause named (Some text) before now refusal → (status ≡ 0) ⊎ (status ≡ 1) ⊎ (status ≡ 7)
+    by_cause Words is cause = absurd (some_of_none named names cause)
+    by_cause NoMemory is cause = inr (inr is)
+    by_cause ReadFault is cause = absurd (not_five is)
+    by_cause SourceTooLong is cause = let small = accepted.1.size in let long = cause.2 in absurd (omega arith)
+    by_cause SourceNotBuilt is cause = absurd (cause.1.form accepted.0 accepted.1.form)
+
+-- where the words name a file and every file has the text, that is the source
+pub source_of-one_text : (text : List ℕ) (words : List (List ℕ)) → IsSome (named_file words) → source_of (λ _. Some text) words ≡ Some text
+source_of-one_text text words names = go (named_file words) names
+  where
+    go : (named : Option (List ℕ)) → IsSome named → option_and_then (λ _. Some text) named ≡ Some text
     go None h = cc
     go (Some file) h = refl

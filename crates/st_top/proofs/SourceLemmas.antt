@@ -16,8 +16,8 @@ use Rattle.st_parse.specs.declared.refusals.SmallError.{SmallError}
 use Rattle.st_parse.specs.declared.refusals.SmallError.TheVariants as errors
 use Rattle.st_small.specs.Program.{IsWellFormed, AreInOrder}
 use Rattle.st_top.specs.Causes.{IsBuildRefusal}
-use Rattle.st_top.specs.Endings.{source_refusal}
-use Rattle.st_top.specs.declared.endings.Refusal.{Refusal}
+use Rattle.st_top.specs.Refusals.{source_refusal}
+use Rattle.st_top.specs.declared.refusals.Refusal.{Refusal}
 
 -- the kinds of fields
 abbrev kinds : List Field → List Kind

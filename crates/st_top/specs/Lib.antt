@@ -1,5 +1,5 @@
 pub mod Causes
-pub mod Endings
+pub mod Refusals
 pub mod LineBytes
 pub mod Outcomes
 pub mod Putting

@@ -6,12 +6,12 @@ use Rattle.st_io.specs.Device.{Counted}
 use Rattle.st_parse.specs.Small.{SmallLists}
 use Rattle.st_small.specs.Right.{IsRightRun}
 use Rattle.st_top.specs.Causes.{HasCause}
-use Rattle.st_top.specs.Endings.{line_of, refused_status}
+use Rattle.st_top.specs.Refusals.{line_of, refused_status}
 use Rattle.st_top.specs.Putting.{IsPut, IsLinePut}
 use Rattle.st_top.specs.Report.{heads_of, report_text}
 use Rattle.st_top.specs.Sources.{IsSourceOf, IsAccepted}
-use Rattle.st_top.specs.declared.endings.Refusal.{Refusal}
-use Rattle.st_top.specs.declared.endings.TheConstants.{STATUS_HOLDS, STATUS_CHECK_FAILS, STATUS_SOURCE, STATUS_READ_FAULT, STATUS_WRITE_FAULT, STATUS_NO_MEMORY}
+use Rattle.st_top.specs.declared.refusals.Refusal.{Refusal}
+use Rattle.st_top.specs.declared.statuses.TheConstants.{STATUS_HOLDS, STATUS_CHECK_FAILS, STATUS_SOURCE, STATUS_READ_FAULT, STATUS_WRITE_FAULT, STATUS_NO_MEMORY}
 
 -- there was a run: the words name a file; it was a right run of the program of the source, where this is told, with the usual sizes; and its report was
 -- put, whole or cut off

@@ -4,7 +4,7 @@ use Rattle.st_events.specs.Ran.{RanLists}
 use Rattle.st_io.specs.Counts.{RoseBy}
 use Rattle.st_io.specs.Growth.{Grows, GrowsByPrefix}
 use Rattle.st_top.specs.Report.{run_status}
-use Rattle.st_top.specs.declared.endings.TheConstants.{STATUS_WRITE_FAULT}
+use Rattle.st_top.specs.declared.statuses.TheConstants.{STATUS_WRITE_FAULT}
 
 -- a text was put whole, and the status is that of the run
 pub record IsPutWhole (status : ℕ) (ran : RanLists) (text : List ℕ) (written-before written-now : Option (List ℕ)) : Type 0 where

@@ -15,7 +15,7 @@ use Rattle.st_parse.specs.declared.programs.SmallStmt.{SmallStmt}
 use Rattle.st_parse.specs.declared.programs.SmallStmt.TheVariants.{Make, Put, Check}
 use Rattle.st_parse.specs.Small.{SmallLists}
 use Rattle.st_top.specs.Texts.{site_text, verdict_text, end_text}
-use Rattle.st_top.specs.declared.endings.TheConstants.{STATUS_HOLDS, STATUS_CHECK_FAILS}
+use Rattle.st_top.specs.declared.statuses.TheConstants.{STATUS_HOLDS, STATUS_CHECK_FAILS}
 
 -- what a report takes of a program: the names of its threads, and the places of its check statements, both in source order
 pub record Heads : Type 0 where

@@ -2,12 +2,13 @@
 //! A source is read, built and run, and its report is written, each through the public promises of the crates below.
 #![tactic(auto)]
 
-mod endings;
+mod calls;
 mod lines;
 mod outcomes;
+mod refusals;
 mod reports;
 mod sources;
-mod strobes;
+mod statuses;
 mod tallies;
 #[cfg(test)]
 mod tests;
@@ -15,5 +16,9 @@ mod texts;
 mod words;
 mod writing;
 
+pub use calls::{strobe, strobe_on_text};
 pub use outcomes::Outcome;
-pub use strobes::strobe;
+pub use statuses::{
+    STATUS_CHECK_FAILS, STATUS_HOLDS, STATUS_NO_MEMORY, STATUS_READ_FAULT, STATUS_SOURCE,
+    STATUS_WORDS, STATUS_WRITE_FAULT,
+};

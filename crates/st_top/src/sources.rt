@@ -3,7 +3,7 @@ ghost use Rattle.std.specs.Prelude.{◌≡◌, ◌≤◌, [], length, IfOk, IfEr
 ghost use Rattle.st_top.specs.Causes.{HasCause, IsBuildRefusal};
 ghost use Rattle.st_top.specs.Sources.{IsRunOf};
 
-use crate::endings::Refusal;
+use crate::refusals::Refusal;
 use crate::reports::Report;
 use st_events::Ran;
 use st_io::Files;

@@ -1,8 +1,9 @@
 //! What verdicts come to: how many checks hold, fail, or have another verdict.
 ghost use Rattle.std.specs.Prelude.{◌≡◌, count_by};
-ghost use Rattle.st_top.specs.Report.{is_holds as is_holds_of, is_fails as is_fails_of, is_other as is_other_of, some_fails as some_fails_of};
+ghost use Rattle.st_top.specs.Report.{is_holds as is_holds_of, is_fails as is_fails_of, is_other as is_other_of, some_fails as some_fails_of, run_status as run_status_of};
 
-use st_events::{Plain, Verdict};
+use crate::statuses::{STATUS_CHECK_FAILS, STATUS_HOLDS};
+use st_events::{Plain, Ran, Verdict};
 
 /// Whether the check holds.
 fn is_holds(verdict: Verdict) -> bool
@@ -49,8 +50,20 @@ pub(crate) fn count_other(verdicts: &[Verdict]) -> usize
 }
 
 /// Whether some check fails.
-pub(crate) fn some_fails(verdicts: &[Verdict]) -> bool
+fn some_fails(verdicts: &[Verdict]) -> bool
     ensures { result ≡ some_fails_of verdicts.now }
 {
     verdicts.iter().any(|verdict| is_fails(*verdict))
+}
+
+/// The status of a run whose report was written whole.
+#[tactic(auto, unfolding(crate::specs::Report::run_status))]
+pub(crate) fn run_status(ran: &Ran) -> u8
+    ensures { result ≡ run_status_of ran.now }
+{
+    if some_fails(&ran.verdicts) {
+        STATUS_CHECK_FAILS
+    } else {
+        STATUS_HOLDS
+    }
 }

@@ -1,25 +1,11 @@
-//! How a call can end, and the status of each end.
+//! Why a call can come to no run: each refusal has its line and its status.
 ghost use Rattle.std.specs.Prelude.{◌≡◌};
-ghost use Rattle.st_top.specs.Endings.{line_of, refused_status, files_refusal, source_refusal};
+ghost use Rattle.st_top.specs.Refusals.{line_of, refused_status, files_refusal, source_refusal};
 
+use crate::statuses::{STATUS_NO_MEMORY, STATUS_READ_FAULT, STATUS_SOURCE, STATUS_WORDS};
 use st_events::NoMemory;
 use st_io::FilesFault;
 use st_parse::SmallError;
-
-/// The status where every check holds.
-pub const STATUS_HOLDS: u8 = 0;
-/// The status where some check fails.
-pub const STATUS_CHECK_FAILS: u8 = 1;
-/// The status where the words are refused.
-pub const STATUS_WORDS: u8 = 2;
-/// The status where the source is refused.
-pub const STATUS_SOURCE: u8 = 3;
-/// The status where a read of the file failed.
-pub const STATUS_READ_FAULT: u8 = 5;
-/// The status where a write of the report failed.
-pub const STATUS_WRITE_FAULT: u8 = 6;
-/// The status where there was no memory.
-pub const STATUS_NO_MEMORY: u8 = 7;
 
 /// Why a call comes to no run. One line is written then.
 #[derive(Clone, Copy, Debug, PartialEq, Eq)]
@@ -87,7 +73,7 @@ impl From<SmallError> for Refusal {
 }
 
 impl From<NoMemory> for Refusal {
-    ghost use Rattle.st_top.specs.declared.endings.Refusal.TheVariants.{NoMemory as NoMemoryRefusal};
+    ghost use Rattle.st_top.specs.declared.refusals.Refusal.TheVariants.{NoMemory as NoMemoryRefusal};
 
     ghost from_gives = { λ _ refusal. refusal ≡ NoMemoryRefusal };
 

@@ -1,24 +1,22 @@
-//! The top call.
-ghost use Rattle.std.specs.Prelude.{◌≡◌, ◌≢◌, ◌↔◌, IsTrue, IsSome, Some, None, IfOk, IfErr, IfSome, IfNone};
+//! The top call, and the same over a text in memory.
+ghost use Rattle.std.specs.Prelude.{◌≡◌, ◌≢◌, ◌⊎◌, ◌↔◌, IsTrue, IsSome, None, IfOk, IfErr, IfSome, IfNone};
 ghost use Rattle.st_io.specs.Counts.{RoseBy};
 ghost use Rattle.st_top.specs.Causes.{HasCause};
-ghost use Rattle.st_top.specs.Endings.{line_of, refused_status};
 ghost use Rattle.st_top.specs.Outcomes.{IsReported, IsRefused, IsRefusedExactly, IsStatusOfRun};
-ghost use Rattle.st_top.specs.Putting.{IsPut, IsLinePut};
-ghost use Rattle.st_top.specs.Report.{joined, run_status, some_fails};
-ghost use Rattle.st_top.specs.Sources.{IsRunOf, source_of};
+ghost use Rattle.st_top.specs.Report.{some_fails};
+ghost use Rattle.st_top.specs.Sources.{IsRunOf, IsAccepted, source_of};
 ghost use Rattle.st_top.specs.Words.{named_file, texts};
 
-use crate::endings::{
-    Refusal, STATUS_CHECK_FAILS, STATUS_HOLDS, STATUS_READ_FAULT, STATUS_WORDS, STATUS_WRITE_FAULT,
-};
 use crate::outcomes::Outcome;
+use crate::refusals::Refusal;
 use crate::sources::{Finished, run_file};
-use crate::tallies::some_fails;
+use crate::statuses::{
+    STATUS_CHECK_FAILS, STATUS_HOLDS, STATUS_NO_MEMORY, STATUS_READ_FAULT, STATUS_WORDS,
+    STATUS_WRITE_FAULT,
+};
 use crate::words::file_named;
-use crate::writing::put_lines;
-use st_events::Ran;
-use st_io::{Files, Pace, Sink};
+use crate::writing::{publish, refuse};
+use st_io::{Files, NoPace, Pace, Sink, SureFiles, SureSink};
 use std::alloc::Global;
 use std::sync::Wait;
 use std::thread::Threads;
@@ -58,6 +56,24 @@ pub fn strobe<R: Threads + Wait + Sync, F: Files, S: Sink, P: Pace + Sync>(
     answer(alloc, words, files, out)
 }
 
+/// The same over one text, which is that of every file, and a sink that takes everything: no device can fail.
+pub fn strobe_on_text<R: Threads + Wait + Sync>(
+    rt: &R,
+    alloc: Global,
+    words: &[String],
+    text: Vec<u8>,
+) -> Outcome
+    ensures no_read_fault { result.status ≢ STATUS_READ_FAULT }
+    ensures no_write_fault { result.status ≢ STATUS_WRITE_FAULT }
+
+    // With words and a source that are accepted there is a run, or there was no memory.
+    ensures accepted { IsSome (named_file (texts words.now)) → IsAccepted text.items
+        → (result.status ≡ STATUS_HOLDS) ⊎ (result.status ≡ STATUS_CHECK_FAILS) ⊎ (result.status ≡ STATUS_NO_MEMORY) }
+{
+    let mut files = SureFiles::make(text);
+    strobe(rt, alloc, words, &mut files, &mut SureSink, &NoPace)
+}
+
 /// What the call does, on one thread.
 fn answer<F: Files, S: Sink>(alloc: Global, words: &[String], files: &mut F, out: &mut S) -> Outcome
     ensures run { IfSome result.ran (λ ran. IsReported (named_file (texts words.now)) (source_of (F.told files.old) (texts words.now)) result.status ran
@@ -83,48 +99,5 @@ fn run_words<F: Files>(alloc: Global, words: &[String], files: &mut F) -> Result
     match file_named(words) {
         Some(name) => run_file(alloc, files, name),
         None => Err(Refusal::Words),
-    }
-}
-
-/// Writes the report of a run.
-fn publish<S: Sink>(finished: Finished, out: &mut S) -> Outcome
-    ensures ran { result.ran ≡ Some finished.ran }
-    ensures put { IsPut result.status finished.ran (joined finished.report)
-        (S.written out.old) (S.written out.new) (S.faults out.old) (S.faults out.new) }
-{
-    match put_lines(out, finished.report.lines()) {
-        Ok(()) => Outcome {
-            status: run_status(&finished.ran),
-            ran: Some(finished.ran),
-        },
-        Err(_) => Outcome {
-            status: STATUS_WRITE_FAULT,
-            ran: Some(finished.ran),
-        },
-    }
-}
-
-/// The status of a run whose report was written.
-#[tactic(auto, unfolding(crate::specs::Report::run_status))]
-fn run_status(ran: &Ran) -> u8
-    ensures { result ≡ run_status ran.now }
-{
-    if some_fails(&ran.verdicts) {
-        STATUS_CHECK_FAILS
-    } else {
-        STATUS_HOLDS
-    }
-}
-
-/// Writes the line of a refusal. Where that fails, the refusal stands all the same.
-fn refuse<S: Sink>(refusal: Refusal, out: &mut S) -> Outcome
-    ensures ran { result.ran ≡ None }
-    ensures status { result.status ≡ refused_status refusal }
-    ensures line { IsLinePut (line_of refusal) (S.written out.old) (S.written out.new) (S.faults out.old) (S.faults out.new) }
-{
-    let _unheard = out.put(refusal.line());
-    Outcome {
-        status: refusal.status(),
-        ran: None,
     }
 }

@@ -4,9 +4,9 @@ use Rattle.st_io.specs.declared.faults.FilesFault.{FilesFault}
 use Rattle.st_io.specs.declared.faults.FilesFault.TheVariants as files
 use Rattle.st_parse.specs.declared.refusals.SmallError.{SmallError}
 use Rattle.st_parse.specs.declared.refusals.SmallError.TheVariants as errors
-use Rattle.st_top.specs.declared.endings.Refusal.{Refusal}
-use Rattle.st_top.specs.declared.endings.Refusal.TheVariants.{Words, NoMemory, ReadFault, SourceTooLong, SourceNotBuilt}
-use Rattle.st_top.specs.declared.endings.TheConstants.{STATUS_WORDS, STATUS_SOURCE, STATUS_READ_FAULT, STATUS_NO_MEMORY}
+use Rattle.st_top.specs.declared.refusals.Refusal.{Refusal}
+use Rattle.st_top.specs.declared.refusals.Refusal.TheVariants.{Words, NoMemory, ReadFault, SourceTooLong, SourceNotBuilt}
+use Rattle.st_top.specs.declared.statuses.TheConstants.{STATUS_WORDS, STATUS_SOURCE, STATUS_READ_FAULT, STATUS_NO_MEMORY}
 
 -- the status of a refusal
 abbrev pub refused_status : Refusal → ℕ

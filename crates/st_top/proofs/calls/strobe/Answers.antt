@@ -1,6 +1,6 @@
 use Rattle.st_top.proofs.OutcomeLemmas.{words-decided, refused-exactly, read_fault-counted, write_fault-counted, check_fails-exactly, ran-exactly, told-named}
 use Rattle.st_top.specs.Words.{texts}
-use Rattle.st_top.proofs.strobes.strobe.Goals as goal
+use Rattle.st_top.proofs.calls.strobe.Goals as goal
 
 pub returns-clause-words : goal.returns-clause-words
 returns-clause-words g c = words-decided _ _ _ _ _ _ _ _ _ _ c.answer.ensures.run c.answer.ensures.refused
