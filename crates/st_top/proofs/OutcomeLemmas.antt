@@ -1,0 +1,194 @@
+-- From what a call leaves to what its status tells.
+use Rattle.std.proofs.Common.{◌≡◌, ◌≢◌, ℕ, ◌≤◌, ◌<◌, List, length, Option, Some, None, IsSome, IfSome, IfNone, Bool, true, false, ◌⊎◌, ◌↔◌, IsTrue, inl, inr, refl, sym, ap, ◌∙◌, subst, arith}
+use Rattle.st_events.specs.Ran.{RanLists}
+use Rattle.st_io.specs.Counts.{RoseBy}
+use Rattle.st_io.specs.Device.{Counted}
+use Rattle.st_top.specs.Causes.{HasCause, IsNotBuilt}
+use Rattle.st_top.specs.Refusals.{refused_status}
+use Rattle.st_top.specs.Outcomes.{IsReported, IsRefused, IsStatusOfRun, IsRefusedExactly}
+use Rattle.st_top.specs.Putting.{IsPut, IsPutWhole, IsCutOff}
+use Rattle.st_top.specs.Report.{joined, report_text, run_status, some_fails}
+use Rattle.std.specs.Option.{option_and_then}
+use Rattle.st_top.specs.Sources.{IsRunOf, IsAccepted, source_of}
+use Rattle.st_top.specs.Words.{named_file}
+use Rattle.st_top.specs.declared.refusals.Refusal.{Refusal}
+use Rattle.st_top.specs.declared.refusals.Refusal.TheVariants.{Words, NoMemory, ReadFault, SourceTooLong, SourceNotBuilt}
+
+-- a run whose report was put
+pub reported : (named source : Option (List ℕ)) (ran : RanLists) (report : List (List ℕ)) (status : ℕ) (wb wn : Option (List ℕ)) (fb fn : ℕ)
+    → IsRunOf named source ran report → IsPut status ran (joined report) wb wn fb fn → IsReported named source status ran wb wn fb fn
+unfolding report_text
+reported named source ran report status wb wn fb fn run put =
+    let P : List (List ℕ) → Type 0 = λ lines. IsPut status ran (joined lines) wb wn fb fn in
+    record { words = run.words; program = run.program; of_source = run.of_source; right = run.right; report = subst P run.lines put }
+
+-- the statuses of a run whose report was put whole
+whole-status : (status : ℕ) (ran : RanLists) → status ≡ run_status ran → (status ≡ 0) × (some_fails ran.verdicts ≡ false) ⊎ (status ≡ 1) × (some_fails ran.verdicts ≡ true)
+unfolding run_status
+whole-status status ran is = go (some_fails ran.verdicts) refl
+  where
+    go : (b : Bool) → some_fails ran.verdicts ≡ b → (status ≡ 0) × (some_fails ran.verdicts ≡ false) ⊎ (status ≡ 1) × (some_fails ran.verdicts ≡ true)
+    go true e = inr (rw e at is, e)
+    go false e = inl (rw e at is, e)
+
+-- an option is not both
+some_of_none : (named : Option (List ℕ)) → IsSome named → named ≡ None → ⊥
+some_of_none None is none = cc
+some_of_none (Some file) is none = cc
+
+-- the words are decided first
+pub words-decided : (named source : Option (List ℕ)) (before now : Counted) (status : ℕ) (ran : Option RanLists) (wb wn : Option (List ℕ)) (fb fn : ℕ)
+    → IfSome ran (λ r. IsReported named source status r wb wn fb fn)
+    → IfNone ran (IsRefused named source before now status wb wn fb fn)
+    → (status ≡ 2) ↔ (named ≡ None)
+words-decided named source before now status (Some r) wb wn fb fn run refused = (λ is. absurd (not_words is), λ e. absurd (some_of_none named run.words e))
+  where
+    not_words : status ≡ 2 → ⊥
+    not_words is = elim run.report [
+      | inl w ↦ elim (whole-status status r w.as_run) [ inl p ↦ (let a = p.0 in omega arith) | inr p ↦ (let a = p.0 in omega arith) ]
+      | inr w ↦ (let a = w.as_fault in omega arith)
+    ]
+words-decided named source before now status None wb wn fb fn run refused = by_cause refused.refusal refused.as_refusal refused.cause
+  where
+    by_cause : (refusal : Refusal) → status ≡ refused_status refusal → HasCause named source before now refusal → (status ≡ 2) ↔ (named ≡ None)
+    by_cause Words is cause = (λ _. cause, λ _. is)
+    by_cause NoMemory is cause = (λ e. absurd (omega arith), λ e. absurd (some_of_none named cause e))
+    by_cause ReadFault is cause = (λ e. absurd (omega arith), λ e. absurd (some_of_none named cause.0 e))
+    by_cause SourceTooLong is cause = (λ e. absurd (omega arith), λ e. absurd (some_of_none named cause.0 e))
+    by_cause SourceNotBuilt is cause = (λ e. absurd (omega arith), λ e. absurd (some_of_none named cause.0 e))
+
+-- a fault of reading comes only where it was counted
+pub read_fault-counted : (named source : Option (List ℕ)) (before now : Counted) (status : ℕ) (ran : Option RanLists) (wb wn : Option (List ℕ)) (fb fn : ℕ)
+    → IfSome ran (λ r. IsReported named source status r wb wn fb fn)
+    → IfNone ran (IsRefused named source before now status wb wn fb fn)
+    → status ≡ 5 → RoseBy 1 before.faults now.faults
+read_fault-counted named source before now status (Some r) wb wn fb fn run refused five = elim run.report [
+  | inl w ↦ elim (whole-status status r w.as_run) [ inl p ↦ (let a = p.0 in absurd (omega arith)) | inr p ↦ (let a = p.0 in absurd (omega arith)) ]
+  | inr w ↦ (let a = w.as_fault in absurd (omega arith))
+]
+read_fault-counted named source before now status None wb wn fb fn run refused five = by_cause refused.refusal refused.as_refusal refused.cause
+  where
+    by_cause : (refusal : Refusal) → status ≡ refused_status refusal → HasCause named source before now refusal → RoseBy 1 before.faults now.faults
+    by_cause ReadFault is cause = cause.1
+    by_cause Words is cause = absurd (omega arith)
+    by_cause NoMemory is cause = absurd (omega arith)
+    by_cause SourceTooLong is cause = absurd (omega arith)
+    by_cause SourceNotBuilt is cause = absurd (omega arith)
+
+-- a fault of writing comes only where it was counted
+pub write_fault-counted : (named source : Option (List ℕ)) (before now : Counted) (status : ℕ) (ran : Option RanLists) (wb wn : Option (List ℕ)) (fb fn : ℕ)
+    → IfSome ran (λ r. IsReported named source status r wb wn fb fn)
+    → IfNone ran (IsRefused named source before now status wb wn fb fn)
+    → status ≡ 6 → RoseBy 1 fb fn
+write_fault-counted named source before now status (Some r) wb wn fb fn run refused six = elim run.report [
+  | inl w ↦ elim (whole-status status r w.as_run) [ inl p ↦ (let a = p.0 in absurd (omega arith)) | inr p ↦ (let a = p.0 in absurd (omega arith)) ]
+  | inr w ↦ w.faults
+]
+write_fault-counted named source before now status None wb wn fb fn run refused six = absurd (by_cause refused.refusal refused.as_refusal)
+  where
+    by_cause : (refusal : Refusal) → status ≡ refused_status refusal → ⊥
+    by_cause Words is = omega arith
+    by_cause NoMemory is = omega arith
+    by_cause ReadFault is = omega arith
+    by_cause SourceTooLong is = omega arith
+    by_cause SourceNotBuilt is = omega arith
+
+-- some check fails exactly where the status says so, unless a write failed
+pub check_fails-exactly : (named source : Option (List ℕ)) (status : ℕ) (ran : Option RanLists) (wb wn : Option (List ℕ)) (fb fn : ℕ)
+    → IfSome ran (λ r. IsReported named source status r wb wn fb fn)
+    → IfSome ran (λ r. status ≢ 6 → (status ≡ 1) ↔ IsTrue (some_fails r.verdicts))
+check_fails-exactly named source status None wb wn fb fn run = tt
+check_fails-exactly named source status (Some r) wb wn fb fn run = λ not_six. elim run.report [
+  | inl w ↦ elim (whole-status status r w.as_run) [
+    | inl p ↦ (let a = p.0 in let b = p.1 in (λ one. absurd (omega arith), λ some. absurd (false_is_true _ b some)))
+    | inr p ↦ (λ _. p.1, λ _. p.0)
+  ]
+  | inr w ↦ absurd (not_six w.as_fault)
+]
+  where
+    false_is_true : (b : Bool) → b ≡ false → IsTrue b → ⊥
+    false_is_true b e h = cc
+
+-- there is a run exactly with the statuses of a run
+pub ran-exactly : (named source : Option (List ℕ)) (before now : Counted) (status : ℕ) (ran : Option RanLists) (wb wn : Option (List ℕ)) (fb fn : ℕ)
+    → IfSome ran (λ r. IsReported named source status r wb wn fb fn)
+    → IfNone ran (IsRefused named source before now status wb wn fb fn)
+    → IsSome ran ↔ IsStatusOfRun status
+unfolding IsStatusOfRun
+ran-exactly named source before now status (Some r) wb wn fb fn run refused = (λ _. status_is, λ _. refl)
+  where
+    status_is : (status ≡ 0) ⊎ (status ≡ 1) ⊎ (status ≡ 6)
+    status_is = elim run.report [
+      | inl w ↦ elim (whole-status status r w.as_run) [ inl p ↦ inl p.0 | inr p ↦ inr (inl p.0) ]
+      | inr w ↦ inr (inr w.as_fault)
+    ]
+ran-exactly named source before now status None wb wn fb fn run refused = (λ is. cc, λ is. absurd (by_cause refused.refusal refused.as_refusal is))
+  where
+    by_cause : (refusal : Refusal) → status ≡ refused_status refusal → (status ≡ 0) ⊎ (status ≡ 1) ⊎ (status ≡ 6) → ⊥
+    by_cause Words is h = elim h [ inl e ↦ omega arith | inr k ↦ elim k [ inl e ↦ omega arith | inr e ↦ omega arith ] ]
+    by_cause NoMemory is h = elim h [ inl e ↦ omega arith | inr k ↦ elim k [ inl e ↦ omega arith | inr e ↦ omega arith ] ]
+    by_cause ReadFault is h = elim h [ inl e ↦ omega arith | inr k ↦ elim k [ inl e ↦ omega arith | inr e ↦ omega arith ] ]
+    by_cause SourceTooLong is h = elim h [ inl e ↦ omega arith | inr k ↦ elim k [ inl e ↦ omega arith | inr e ↦ omega arith ] ]
+    by_cause SourceNotBuilt is h = elim h [ inl e ↦ omega arith | inr k ↦ elim k [ inl e ↦ omega arith | inr e ↦ omega arith ] ]
+
+-- a source that is told is refused exactly where it is no source
+pub refused-exactly : (named source : Option (List ℕ)) (before now : Counted) (status : ℕ) (ran : Option RanLists) (wb wn : Option (List ℕ)) (fb fn : ℕ)
+    → (IsSome source → IsSome named)
+    → IfSome ran (λ r. IsReported named source status r wb wn fb fn)
+    → IfNone ran (IsRefused named source before now status wb wn fb fn)
+    → IfSome source (λ text. IsRefusedExactly text status)
+unfolding IsAccepted
+refused-exactly named None before now status ran wb wn fb fn names run refused = tt
+refused-exactly named (Some text) before now status (Some r) wb wn fb fn names run refused =
+    record { only = λ three. absurd (not_three three); wherever = λ denied _ _. absurd (denied (run.program, run.of_source)) }
+  where
+    not_three : status ≡ 3 → ⊥
+    not_three three = elim run.report [
+      | inl w ↦ elim (whole-status status r w.as_run) [ inl p ↦ (let a = p.0 in omega arith) | inr p ↦ (let a = p.0 in omega arith) ]
+      | inr w ↦ (let a = w.as_fault in omega arith)
+    ]
+refused-exactly named (Some text) before now status None wb wn fb fn names run refused = by_cause refused.refusal refused.as_refusal refused.cause
+  where
+    by_cause : (refusal : Refusal) → status ≡ refused_status refusal → HasCause named (Some text) before now refusal → IsRefusedExactly text status
+    by_cause Words is cause = absurd (some_of_none named (names refl) cause)
+    by_cause NoMemory is cause = record { only = λ three. absurd (omega arith); wherever = λ _ _ not_seven. absurd (not_seven is) }
+    by_cause ReadFault is cause = record { only = λ three. absurd (omega arith); wherever = λ _ not_five _. absurd (not_five is) }
+    by_cause SourceTooLong is cause = record { only = λ _ accepted. (let small = accepted.1.size in let long = cause.2 in omega arith); wherever = λ _ _ _. is }
+    by_cause SourceNotBuilt is cause = record { only = λ _ accepted. cause.1.form accepted.0 accepted.1.form; wherever = λ _ _ _. is }
+
+-- where a source is told, the words name a file
+pub told-named : (told : List ℕ → Option (List ℕ)) (words : List (List ℕ)) → IsSome (source_of told words) → IsSome (named_file words)
+told-named told words is = go (named_file words) is
+  where
+    go : (named : Option (List ℕ)) → IsSome (option_and_then told named) → IsSome named
+    go None h = cc
+    go (Some file) h = refl
+
+-- words and a source that are accepted come to a run, but for faults and want of memory
+pub accepted-runs : (named source : Option (List ℕ)) (text : List ℕ) (before now : Counted) (status : ℕ) (ran : Option RanLists) (wb wn : Option (List ℕ)) (fb fn : ℕ)
+    → IfSome ran (λ r. IsReported named source status r wb wn fb fn)
+    → IfNone ran (IsRefused named source before now status wb wn fb fn)
+    → source ≡ Some text → status ≢ 5 → status ≢ 6
+    → IsSome named → IsAccepted text → (status ≡ 0) ⊎ (status ≡ 1) ⊎ (status ≡ 7)
+unfolding IsAccepted
+accepted-runs named source text before now status (Some r) wb wn fb fn run refused told not_five not_six names accepted = elim run.report [
+  | inl w ↦ elim (whole-status status r w.as_run) [ inl p ↦ inl p.0 | inr p ↦ inr (inl p.0) ]
+  | inr w ↦ absurd (not_six w.as_fault)
+]
+accepted-runs named source text before now status None wb wn fb fn run refused told not_five not_six names accepted =
+    by_cause refused.refusal refused.as_refusal (rw told at refused.cause)
+  where
+    by_cause : (refusal : Refusal) → status ≡ refused_status refusal → HasCause named (Some text) before now refusal → (status ≡ 0) ⊎ (status ≡ 1) ⊎ (status ≡ 7)
+    by_cause Words is cause = absurd (some_of_none named names cause)
+    by_cause NoMemory is cause = inr (inr is)
+    by_cause ReadFault is cause = absurd (not_five is)
+    by_cause SourceTooLong is cause = let small = accepted.1.size in let long = cause.2 in absurd (omega arith)
+    by_cause SourceNotBuilt is cause = absurd (cause.1.form accepted.0 accepted.1.form)
+
+-- where the words name a file and every file has the text, that is the source
+pub source_of-one_text : (text : List ℕ) (words : List (List ℕ)) → IsSome (named_file words) → source_of (λ _. Some text) words ≡ Some text
+source_of-one_text text words names = go (named_file words) names
+  where
+    go : (named : Option (List ℕ)) → IsSome named → option_and_then (λ _. Some text) named ≡ Some text
+    go None h = cc
+    go (Some file) h = refl

@@ -1,0 +1,9 @@
+pub mod Causes
+pub mod Refusals
+pub mod LineBytes
+pub mod Outcomes
+pub mod Putting
+pub mod Report
+pub mod Sources
+pub mod Texts
+pub mod Words

@@ -1,0 +1,103 @@
+//! The top call, and the same over a text in memory.
+ghost use Rattle.std.specs.Prelude.{◌≡◌, ◌≢◌, ◌⊎◌, ◌↔◌, IsTrue, IsSome, None, IfOk, IfErr, IfSome, IfNone};
+ghost use Rattle.st_io.specs.Counts.{RoseBy};
+ghost use Rattle.st_top.specs.Causes.{HasCause};
+ghost use Rattle.st_top.specs.Outcomes.{IsReported, IsRefused, IsRefusedExactly, IsStatusOfRun};
+ghost use Rattle.st_top.specs.Report.{some_fails};
+ghost use Rattle.st_top.specs.Sources.{IsRunOf, IsAccepted, source_of};
+ghost use Rattle.st_top.specs.Words.{named_file, texts};
+
+use crate::outcomes::Outcome;
+use crate::refusals::Refusal;
+use crate::sources::{Finished, run_file};
+use crate::statuses::{
+    STATUS_CHECK_FAILS, STATUS_HOLDS, STATUS_NO_MEMORY, STATUS_READ_FAULT, STATUS_WORDS,
+    STATUS_WRITE_FAULT,
+};
+use crate::words::file_named;
+use crate::writing::{publish, refuse};
+use st_io::{Files, NoPace, Pace, Sink, SureFiles, SureSink};
+use std::alloc::Global;
+use std::sync::Wait;
+use std::thread::Threads;
+
+/// Does what the words say: `run FILE` runs the source in the file, and writes its report to `out`. Every other list of
+/// words is refused. Where there is no run, one line says why.
+///
+/// Each line is put by one call, with its newline, and nothing is put after a put that failed. The program waits for
+/// nobody, and does not use `pace`.
+pub fn strobe<R: Threads + Wait + Sync, F: Files, S: Sink, P: Pace + Sync>(
+    _rt: &R,
+    alloc: Global,
+    words: &[String],
+    files: &mut F,
+    out: &mut S,
+    _pace: &P,
+) -> Outcome
+    // The cause of each status: the words are decided first, and nothing ties want of memory.
+    ensures words { (result.status ≡ STATUS_WORDS) ↔ (named_file (texts words.now) ≡ None) }
+    ensures source { IfSome (source_of (F.told files.old) (texts words.now)) (λ text. IsRefusedExactly text result.status) }
+    ensures read_fault { result.status ≡ STATUS_READ_FAULT → RoseBy 1 (F.faults files.old) (F.faults files.new) }
+    ensures write_fault { result.status ≡ STATUS_WRITE_FAULT → RoseBy 1 (S.faults out.old) (S.faults out.new) }
+    ensures check_fails { IfSome result.ran (λ ran. result.status ≢ STATUS_WRITE_FAULT
+        → ((result.status ≡ STATUS_CHECK_FAILS) ↔ IsTrue (some_fails ran.verdicts))) }
+
+    // There is a run with the statuses 0, 1 and 6: a right one, and its report was put. Else one line was put.
+    ensures ran { IsSome result.ran ↔ IsStatusOfRun result.status }
+    ensures run { IfSome result.ran (λ ran. IsReported (named_file (texts words.now))
+        (source_of (F.told files.old) (texts words.now)) result.status ran
+        (S.written out.old) (S.written out.new) (S.faults out.old) (S.faults out.new)) }
+    ensures refused { IfNone result.ran (IsRefused (named_file (texts words.now))
+        (source_of (F.told files.old) (texts words.now))
+        (record { faults = F.faults files.old; taken = F.taken files.old })
+        (record { faults = F.faults files.new; taken = F.taken files.new }) result.status
+        (S.written out.old) (S.written out.new) (S.faults out.old) (S.faults out.new)) }
+{
+    answer(alloc, words, files, out)
+}
+
+/// The same over one text, which is that of every file, and a sink that takes everything: no device can fail.
+pub fn strobe_on_text<R: Threads + Wait + Sync>(
+    rt: &R,
+    alloc: Global,
+    words: &[String],
+    text: Vec<u8>,
+) -> Outcome
+    ensures no_read_fault { result.status ≢ STATUS_READ_FAULT }
+    ensures no_write_fault { result.status ≢ STATUS_WRITE_FAULT }
+
+    // With words and a source that are accepted there is a run, or there was no memory.
+    ensures accepted { IsSome (named_file (texts words.now)) → IsAccepted text.items
+        → (result.status ≡ STATUS_HOLDS) ⊎ (result.status ≡ STATUS_CHECK_FAILS) ⊎ (result.status ≡ STATUS_NO_MEMORY) }
+{
+    let mut files = SureFiles::make(text);
+    strobe(rt, alloc, words, &mut files, &mut SureSink, &NoPace)
+}
+
+/// What the call does, on one thread.
+fn answer<F: Files, S: Sink>(alloc: Global, words: &[String], files: &mut F, out: &mut S) -> Outcome
+    ensures run { IfSome result.ran (λ ran. IsReported (named_file (texts words.now)) (source_of (F.told files.old) (texts words.now)) result.status ran
+        (S.written out.old) (S.written out.new) (S.faults out.old) (S.faults out.new)) }
+    ensures refused { IfNone result.ran (IsRefused (named_file (texts words.now)) (source_of (F.told files.old) (texts words.now))
+        (record { faults = F.faults files.old; taken = F.taken files.old })
+        (record { faults = F.faults files.new; taken = F.taken files.new }) result.status
+        (S.written out.old) (S.written out.new) (S.faults out.old) (S.faults out.new)) }
+{
+    match run_words(alloc, words, files) {
+        Ok(finished) => publish(finished, out),
+        Err(refusal) => refuse(refusal, out),
+    }
+}
+
+/// Runs the source that the words name.
+fn run_words<F: Files>(alloc: Global, words: &[String], files: &mut F) -> Result<Finished, Refusal>
+    ensures right { IfOk result (λ finished. IsRunOf (named_file (texts words.now)) (source_of (F.told files.old) (texts words.now)) finished.ran finished.report) }
+    ensures cause { IfErr result (λ refusal. HasCause (named_file (texts words.now)) (source_of (F.told files.old) (texts words.now))
+        (record { faults = F.faults files.old; taken = F.taken files.old })
+        (record { faults = F.faults files.new; taken = F.taken files.new }) refusal) }
+{
+    match file_named(words) {
+        Some(name) => run_file(alloc, files, name),
+        None => Err(Refusal::Words),
+    }
+}

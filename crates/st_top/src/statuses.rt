@@ -1,0 +1,16 @@
+//! The statuses that the program ends with.
+
+/// The status where every check holds.
+pub const STATUS_HOLDS: u8 = 0;
+/// The status where some check fails.
+pub const STATUS_CHECK_FAILS: u8 = 1;
+/// The status where the words are refused.
+pub const STATUS_WORDS: u8 = 2;
+/// The status where the source is refused.
+pub const STATUS_SOURCE: u8 = 3;
+/// The status where a read of the file failed.
+pub const STATUS_READ_FAULT: u8 = 5;
+/// The status where a write of the report failed.
+pub const STATUS_WRITE_FAULT: u8 = 6;
+/// The status where there was no memory.
+pub const STATUS_NO_MEMORY: u8 = 7;
