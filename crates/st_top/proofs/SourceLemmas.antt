@@ -1,5 +1,5 @@
 -- A source of the small form is well formed: its classes are declared, and its locals are made before they are used.
-use Rattle.std.proofs.Common.{◌≡◌, ℕ, ◌≤◌, List, [], ◌∷◌, ◌++◌, length, map, All, slice_get, Some, refl, sym, ap, ◌∙◌, subst, lit≤, suc, Result, Ok, Err, IfErr, IsErrAnd, arith}
+use Rattle.std.proofs.Common.{◌≡◌, ℕ, ◌≤◌, List, [], ◌∷◌, ◌++◌, length, map, All, refl, sym, ap, ◌∙◌, subst, lit≤, suc, Result, Ok, Err, IfErr, IsErrAnd, arith}
 use Rattle.std.proofs.lemmas.List.{length-append, length-map, append-nil}
 use Rattle.std.proofs.lemmas.List.Elements.{All-map}
 use Rattle.std.proofs.lemmas.Option.{slice_get-map, slice_get_within}
