@@ -1,12 +1,12 @@
 -- From what a call leaves to what its status tells.
-use Rattle.std.proofs.Common.{◌≡◌, ◌≢◌, ℕ, ◌≤◌, ◌<◌, List, length, Option, Some, None, IsSome, IfSome, IfNone, Bool, true, false, ◌⊎◌, ◌↔◌, IsTrue, inl, inr, refl, sym, ap, ◌∙◌, subst, arith}
+use Rattle.std.proofs.Common.{◌≡◌, ◌≢◌, ℕ, List, Option, Some, None, IsSome, IfSome, IfNone, Bool, true, false, ◌⊎◌, ◌↔◌, IsTrue, inl, inr, refl, subst, arith}
 use Rattle.st_events.specs.Ran.{RanLists}
 use Rattle.st_io.specs.Counts.{RoseBy}
 use Rattle.st_io.specs.Device.{Counted}
-use Rattle.st_top.specs.Causes.{HasCause, IsNotBuilt}
+use Rattle.st_top.specs.Causes.{HasCause}
 use Rattle.st_top.specs.Refusals.{refused_status}
 use Rattle.st_top.specs.Outcomes.{IsReported, IsRefused, IsStatusOfRun, IsRefusedExactly}
-use Rattle.st_top.specs.Putting.{IsPut, IsPutWhole, IsCutOff}
+use Rattle.st_top.specs.Putting.{IsPut}
 use Rattle.st_top.specs.Report.{joined, report_text, run_status, some_fails}
 use Rattle.std.specs.Option.{option_and_then}
 use Rattle.st_top.specs.Sources.{IsRunOf, IsAccepted, source_of}

@@ -13,8 +13,8 @@ use Rattle.st_top.specs.Sources.{IsSourceOf, IsAccepted}
 use Rattle.st_top.specs.declared.refusals.Refusal.{Refusal}
 use Rattle.st_top.specs.declared.statuses.TheConstants.{STATUS_HOLDS, STATUS_CHECK_FAILS, STATUS_SOURCE, STATUS_READ_FAULT, STATUS_WRITE_FAULT, STATUS_NO_MEMORY}
 
--- there was a run: the words name a file; it was a right run of the program of the source, where this is told, with the usual sizes; and its report was
--- put, whole or cut off
+-- there was a run: the words name a file; it was a right run, with the usual sizes, of a program, which is that of the
+-- source where this is told; and its report was put, whole or cut off
 pub record IsReported (named source : Option (List ℕ)) (status : ℕ) (ran : RanLists) (written-before written-now : Option (List ℕ)) (faults-before faults-now : ℕ) : Type 0 where
   pub words : IsSome named
   pub program : SmallLists

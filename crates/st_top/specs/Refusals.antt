@@ -1,4 +1,4 @@
--- How a call can end: the status of each end, and the line of each refusal.
+-- Why a call can come to no run: the status and the line of each refusal.
 use Rattle.std.specs.Prelude.{ℕ, List, codes}
 use Rattle.st_io.specs.declared.faults.FilesFault.{FilesFault}
 use Rattle.st_io.specs.declared.faults.FilesFault.TheVariants as files

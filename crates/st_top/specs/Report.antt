@@ -1,5 +1,5 @@
 -- The report of a run: which lines it has, and what each of them says.
-use Rattle.std.specs.Prelude.{ℕ, ◌+◌, ◌-◌, Bool, true, false, ◌&&◌, not, List, [], ◌∷◌, ◌++◌, length, map, count_by, codes, Option, Some, None, slice_get, option_and_then, if◌then◌else◌}
+use Rattle.std.specs.Prelude.{ℕ, ◌-◌, Bool, true, false, ◌&&◌, not, List, [], ◌∷◌, ◌++◌, length, map, count_by, codes, Option, Some, None, slice_get, option_and_then, if◌then◌else◌}
 use Rattle.std.specs.List.{flat_map, filter_map, enumerate_from, zip, list_any}
 use Rattle.std.specs.Fmt.{decimal}
 use Rattle.st_events.specs.declared.events.Event.{Event}

@@ -21,11 +21,13 @@ use std::alloc::Global;
 use std::sync::Wait;
 use std::thread::Threads;
 
-/// Does what the words say: `run FILE` runs the source in the file, and writes its report to `out`. Every other list of
-/// words is refused. Where there is no run, one line says why.
+/// Does what the words, which are without the program's name, say: `run FILE` runs the source in the file with the usual
+/// sizes, and writes its report to `out`. Every other list of words is refused. Where there is no run, one line says why.
 ///
-/// Each line is put by one call, with its newline, and nothing is put after a put that failed. The program waits for
-/// nobody, and does not use `pace`.
+/// The status is the first that applies of: wrong words, want of memory, a read that failed, a source that is refused, a
+/// write that failed, a check that fails, and 0. All memory for a report is had before any of it is written. Each line is
+/// put by one call, with its newline, and nothing is put after a put that failed. The call waits for nobody, and does not
+/// use its pace.
 pub fn strobe<R: Threads + Wait + Sync, F: Files, S: Sink, P: Pace + Sync>(
     _rt: &R,
     alloc: Global,
@@ -34,7 +36,7 @@ pub fn strobe<R: Threads + Wait + Sync, F: Files, S: Sink, P: Pace + Sync>(
     out: &mut S,
     _pace: &P,
 ) -> Outcome
-    // The cause of each status: the words are decided first, and nothing ties want of memory.
+    // The cause of each status but want of memory, which may come whenever the words are right.
     ensures words { (result.status ≡ STATUS_WORDS) ↔ (named_file (texts words.now) ≡ None) }
     ensures source { IfSome (source_of (F.told files.old) (texts words.now)) (λ text. IsRefusedExactly text result.status) }
     ensures read_fault { result.status ≡ STATUS_READ_FAULT → RoseBy 1 (F.faults files.old) (F.faults files.new) }

@@ -1,5 +1,4 @@
-use Rattle.std.proofs.Common.{sym, ◌∙◌, ap}
-use Rattle.st_top.specs.LineBytes.{line_bytes}
+use Rattle.std.proofs.Common.{sym, ◌∙◌}
 use Rattle.st_top.proofs.ReportLemmas.{lines-launch, lines-same}
 use Rattle.st_top.proofs.reports.check_lines.Goals.{in-Some+in_ok-check_line-in-Some+in_ok-push-in-Some, in-None}
 use Rattle.st_top.proofs.reports.check_lines.Goals as goal
