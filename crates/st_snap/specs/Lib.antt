@@ -1,0 +1,4 @@
+pub mod Headers
+pub mod Lanes
+pub mod Pool
+pub mod PoolLists
