@@ -2,3 +2,4 @@ pub mod Headers
 pub mod Lanes
 pub mod Pool
 pub mod PoolLists
+pub mod Table

@@ -1,7 +1,7 @@
 //! The pool of copies: each is free, or holds the words of one old version, which several checks share.
-ghost use Rattle.std.specs.Prelude.{◌≡◌, ◌-◌, ◌<◌, ◌≤◌, [], length, filter, slice_get, Some, IfOk};
-ghost use Rattle.std.specs.List.{Contains};
-ghost use Rattle.st_snap.specs.Pool.{KeptVersion, Keeps, is_read, no_versions};
+ghost use Rattle.std.specs.Prelude.{◌≡◌, ℕ, ◌+◌, ◌-◌, ◌<◌, ◌≤◌, ◌==◌, nat_lt, cond, not, count_by, map, [], ◌++◌, length, filter, slice_index, vec_len, vec_capacity, IfOk};
+ghost use Rattle.std.specs.List.{Contains, list_any};
+ghost use Rattle.st_snap.specs.Lanes.{is_between};
 
 use crate::headers::Target;
 use crate::lanes::some_between;
@@ -48,6 +48,8 @@ impl Model for Pool {
 }
 
 impl Pool {
+    ghost use Rattle.st_snap.specs.Pool.{KeptVersion, Keeps, is_read, no_versions};
+
     /// A pool of so many copies, all of them free.
     pub fn make(alloc: Global, copies: u32) -> Result<Pool, NoMemory>
         ensures { IfOk result (λ pool. pool ≡ no_versions copies) }
@@ -90,7 +92,7 @@ impl Pool {
     pub fn word(&self, copy: u32, field: u8) -> u64
         requires copy { copy < self.now.size }
         requires field { field < MOST_FIELDS }
-        ensures { (kept : KeptVersion) → Contains self.now.versions kept → kept.version.copy ≡ copy → slice_get kept.words field ≡ Some result }
+        ensures { (kept : KeptVersion) → Contains self.now.versions kept → kept.version.copy ≡ copy → result ≡ slice_index kept.words field }
     {
         self.words[copy as usize][field as usize]
     }
@@ -101,12 +103,16 @@ impl Pool {
         ensures size { self.new.size ≡ self.old.size }
     {
         free_unread(&mut self.free, self.kept.as_slice(), lanes);
-        self.kept.retain(|version| is_needed(version, lanes));
+        drop_unread(&mut self.kept, lanes);
     }
 }
 
 /// The numbers from 0 up to below `count`.
-fn all_numbers(alloc: Global, count: u32) -> Result<Vec<u32>, NoMemory> {
+fn all_numbers(alloc: Global, count: u32) -> Result<Vec<u32>, NoMemory>
+    ensures once { IfOk result (λ v. (number : ℕ) → count_by (λ n. n == number) v.items ≡ cond (nat_lt number count) 1 0) }
+    ensures len { IfOk result (λ v. vec_len v ≡ count) }
+    ensures room { IfOk result (λ v. count ≤ vec_capacity v) }
+{
     let mut numbers = Vec::with_capacity(alloc, count as usize)?;
     for number in 0..count {
         numbers.push_reserved(number);
@@ -115,7 +121,11 @@ fn all_numbers(alloc: Global, count: u32) -> Result<Vec<u32>, NoMemory> {
 }
 
 /// Puts the number of each copy whose version no check at a lane reads to the free ones.
-fn free_unread(free: &mut Vec<u32>, kept: &[Version], lanes: &[Option<u32>]) {
+fn free_unread(free: &mut Vec<u32>, kept: &[Version], lanes: &[Option<u32>])
+    requires { vec_len free.old + length kept.now ≤ vec_capacity free.old }
+    ensures items { free.new.items ≡ free.old.items ++ map (λ v. v.copy) (filter (λ v. not (list_any (is_between v.after v.upto) lanes.now)) kept.now) }
+    ensures room { vec_capacity free.new ≡ vec_capacity free.old }
+{
     for version in kept {
         if !is_needed(version, lanes) {
             free.push_reserved(version.copy);
@@ -123,7 +133,17 @@ fn free_unread(free: &mut Vec<u32>, kept: &[Version], lanes: &[Option<u32>]) {
     }
 }
 
+/// Leaves out each version that no check at a lane reads.
+fn drop_unread(kept: &mut Vec<Version>, lanes: &[Option<u32>])
+    ensures items { kept.new.items ≡ filter (λ v. list_any (is_between v.after v.upto) lanes.now) kept.old.items }
+    ensures room { vec_capacity kept.new ≡ vec_capacity kept.old }
+{
+    kept.retain(|version| is_needed(version, lanes));
+}
+
 /// Whether a check at a lane reads the version.
-fn is_needed(version: &Version, lanes: &[Option<u32>]) -> bool {
+fn is_needed(version: &Version, lanes: &[Option<u32>]) -> bool
+    ensures { result ≡ list_any (is_between version.now.after version.now.upto) lanes.now }
+{
     some_between(lanes, version.after, version.upto)
 }

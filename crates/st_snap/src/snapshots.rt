@@ -1,5 +1,5 @@
 //! The snapshot heap. It is called with whole operations, keeps its journal, and takes all its memory at `make`.
-ghost use Rattle.std.specs.Prelude.{◌≡◌, ◌+◌, ◌*◌, ◌<◌, ◌≤◌, length};
+ghost use Rattle.std.specs.Prelude.{◌≡◌, ◌+◌, ◌-◌, ◌*◌, ◌^◌, ◌<◌, ◌≤◌, [], ◌∷◌, ◌++◌, length};
 
 use crate::lanes::{Lane, count_idle};
 use crate::shape_copies::copy_shape;
@@ -154,7 +154,12 @@ impl SnapHeap {
 }
 
 /// Appends an event for which there is room.
-fn append(journal: &mut Journal, event: Event) {
+fn append(journal: &mut Journal, event: Event)
+    requires spare { 0 < journal.old.spare }
+    requires len { length journal.old.events < 2 ^ 32 - 1 }
+    ensures events { journal.new.events ≡ journal.old.events ++ event ∷ [] }
+    ensures spare { journal.new.spare ≡ journal.old.spare - 1 }
+{
     match journal.push(event) {
         Ok(()) => {}
         Err(NoMemory) => unreachable!(),

@@ -1,7 +1,10 @@
 //! What a snapshot heap keeps beside its journal: the live heap, an object's header, the lanes and the pool of copies.
-ghost use Rattle.std.specs.Prelude.{◌≡◌, ◌+◌, ◌*◌, ◌<◌, ◌≤◌, length};
+ghost use Rattle.std.specs.Prelude.{◌≡◌, ◌≢◌, ℕ, ◌+◌, ◌-◌, ◌*◌, ◌^◌, ◌<◌, ◌≤◌, length, slice_index, Some, IfOk, IsSome};
+ghost use Rattle.st_events.specs.Heap.{heap_of, word_at};
+ghost use Rattle.st_events.specs.Shape.{IsWithinLimits};
+ghost use Rattle.st_events.specs.Sizes.{AreWithinLimits};
 
-use crate::headers::{Forward, Header, Target};
+use crate::headers::{Forward, Header, LANES, Target};
 use crate::lanes::{Lane, first_idle, some_between};
 use crate::pools::{Pool, Words};
 use st_events::{FIRST_OF_REGIONS, HeapMap, MOST_FIELDS, NoMemory, Shape, Sizes};
@@ -23,9 +26,23 @@ pub(crate) struct Table {
     pub pool: Pool,
 }
 
+impl Model for Table {
+    ghost use Rattle.st_snap.specs.Table.{TableLists};
+
+    ghost Value = { TableLists };
+
+    ghost view = { λ t. record { heap = t.heap; headers = t.headers.items; made = t.made.items; epoch = t.epoch; lanes = t.lanes.items; pool = t.pool } };
+}
+
 impl Table {
+    ghost use Rattle.st_snap.specs.Table.{IsFirst, Makes, KeepsVersion, Changes, Launches, retired_at, Reads, AreCopies, HasWords, object_room};
+
     /// Before the first event.
-    pub fn make(alloc: Global, shape: &Shape, sizes: &Sizes) -> Result<Table, NoMemory> {
+    pub fn make(alloc: Global, shape: &Shape, sizes: &Sizes) -> Result<Table, NoMemory>
+        requires shape { IsWithinLimits shape.now }
+        requires sizes { AreWithinLimits sizes.now }
+        ensures { IfOk result (IsFirst shape.now sizes.now) }
+    {
         let objects = FIRST_OF_REGIONS + sizes.mutators as usize * sizes.objects as usize;
         Ok(Table {
             heap: HeapMap::make(alloc, shape, sizes)?,
@@ -38,7 +55,14 @@ impl Table {
     }
 
     /// Makes the next object of a mutator's region, and tells its number.
-    pub fn make_object(&mut self, shape: &Shape, objects: u32, m: u8, class: u8) -> u32 {
+    pub fn make_object(&mut self, shape: &Shape, objects: u32, m: u8, class: u8) -> u32
+        requires shape { IsWithinLimits shape.now }
+        requires thread { m < length self.old.made }
+        requires heap { FIRST_OF_REGIONS + m * objects + slice_index self.old.made m < length self.old.heap }
+        requires headers { length self.old.headers ≡ length self.old.heap }
+        requires fits { length self.old.heap < 2 ^ 32 }
+        ensures { Makes shape.now objects self.old self.new m class result }
+    {
         let count = self.made[m as usize];
         let obj = FIRST_OF_REGIONS as u32 + m as u32 * objects + count;
         self.made[m as usize] = count + 1;
@@ -48,7 +72,13 @@ impl Table {
     }
 
     /// Sets a word, once the old version is kept for the checks that need it.
-    pub fn change(&mut self, obj: u32, field: u8, value: u64) {
+    pub fn change(&mut self, obj: u32, field: u8, value: u64)
+        requires cell { IsSome (word_at (heap_of self.old.heap) obj field) }
+        requires small { (f : ℕ) → IsSome (word_at (heap_of self.old.heap) obj f) → f < MOST_FIELDS }
+        requires header { obj < length self.old.headers }
+        requires lanes { length self.old.lanes ≤ LANES }
+        ensures { Changes self.old self.new obj field value }
+    {
         self.keep_version(obj);
         self.headers[obj as usize].stamp = self.epoch;
         self.heap.set(obj, field, value);
@@ -57,7 +87,12 @@ impl Table {
     /// Keeps the version of the object for each active check that was launched after its stamp, in one copy for all of
     /// them, and sends these checks to it. The forwarding words come before the change of the field, so that no check
     /// reads a new word.
-    fn keep_version(&mut self, obj: u32) {
+    fn keep_version(&mut self, obj: u32)
+        requires small { (f : ℕ) → IsSome (word_at (heap_of self.old.heap) obj f) → f < MOST_FIELDS }
+        requires header { obj < length self.old.headers }
+        requires lanes { length self.old.lanes ≤ LANES }
+        ensures { KeepsVersion self.old self.new obj }
+    {
         let stamp = self.headers[obj as usize].stamp;
         if some_between(&self.lanes, stamp, self.epoch) {
             let words = words_of(&self.heap, obj);
@@ -67,7 +102,10 @@ impl Table {
     }
 
     /// Gives the next check the first idle lane, if there is one.
-    pub fn launch(&mut self) -> Option<Lane> {
+    pub fn launch(&mut self) -> Option<Lane>
+        requires { self.old.epoch < 2 ^ 32 - 1 }
+        ensures { Launches self.old self.new result }
+    {
         let index = match first_idle(&self.lanes) {
             Some(index) => index,
             None => return None,
@@ -81,13 +119,22 @@ impl Table {
     }
 
     /// Takes a check off its lane, and gives back each copy that no other check reads.
-    pub fn retire(&mut self, index: usize) {
+    pub fn retire(&mut self, index: usize)
+        requires { index < length self.old.lanes }
+        ensures { self.new ≡ retired_at self.old index }
+    {
         self.lanes[index] = None;
         self.pool.release(&self.lanes);
     }
 
     /// The word that a check reads, unless its version is gone.
-    pub fn read(&self, lane: &Lane, obj: u32, field: u8) -> Option<u64> {
+    pub fn read(&self, lane: &Lane, obj: u32, field: u8) -> Option<u64>
+        requires lane { lane.now.index < LANES }
+        requires header { obj < length self.now.headers }
+        requires field { field < MOST_FIELDS }
+        requires copies { AreCopies self.now lane.now obj }
+        ensures { Reads self.now lane.now obj field result }
+    {
         let live = self.heap.get(obj, field);
         let Forward { epoch, target } = self.headers[obj as usize].forward[lane.index];
         if epoch != lane.number {
@@ -101,12 +148,13 @@ impl Table {
 }
 
 /// The words of an object as they stand.
-fn words_of(heap: &HeapMap, obj: u32) -> Words {
+fn words_of(heap: &HeapMap, obj: u32) -> Words
+    requires { (f : ℕ) → IsSome (word_at (heap_of heap.now) obj f) → f < MOST_FIELDS }
+    ensures { (field word : ℕ) → word_at (heap_of heap.now) obj field ≡ Some word → slice_index result field ≡ word }
+{
     let mut words = [0; MOST_FIELDS];
     for field in 0..MOST_FIELDS {
-        if let Some(word) = heap.get(obj, field as u8) {
-            words[field] = word;
-        }
+        words[field] = heap.get(obj, field as u8).unwrap_or(0);
     }
     words
 }

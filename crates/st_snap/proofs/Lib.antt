@@ -1,0 +1,4 @@
+mod HeaderLemmas
+mod ListLemmas
+mod PoolLemmas
+mod TableLemmas

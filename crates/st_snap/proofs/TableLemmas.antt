@@ -1,0 +1,16 @@
+-- What keeping a version leaves as it was
+use Rattle.std.proofs.Common.{◌≡◌, ℕ, length, refl, ap, ◌∙◌, inl, inr}
+use Rattle.st_snap.specs.Table.{TableLists, KeepsVersion, sent}
+use Rattle.st_snap.proofs.ListLemmas.{length-adjust}
+
+pub kept_same_heap : (before after : TableLists) (obj : ℕ) → KeepsVersion before after obj → after.heap ≡ before.heap
+kept_same_heap before after obj k = elim k.cases [ inl y ↦ ap (λ (t : TableLists). t.heap) y.rest | inr n ↦ ap (λ (t : TableLists). t.heap) n.1 ]
+
+pub kept_same_epoch : (before after : TableLists) (obj : ℕ) → KeepsVersion before after obj → after.epoch ≡ before.epoch
+kept_same_epoch before after obj k = elim k.cases [ inl y ↦ ap (λ (t : TableLists). t.epoch) y.rest | inr n ↦ ap (λ (t : TableLists). t.epoch) n.1 ]
+
+pub kept_header_room : (before after : TableLists) (obj : ℕ) → KeepsVersion before after obj → length after.headers ≡ length before.headers
+kept_header_room before after obj k = elim k.cases [
+    inl y ↦ ap (λ (t : TableLists). length t.headers) y.rest ∙ length-adjust (sent y.target before.lanes) before.headers obj
+  | inr n ↦ ap (λ (t : TableLists). length t.headers) n.1
+  ]
