@@ -9,8 +9,8 @@ use Rattle.st_events.specs.declared.limits.Sizes.{Sizes}
 use Rattle.st_events.specs.declared.reasons.Why.{Why}
 use Rattle.st_events.specs.Shape.{ShapeLists}
 use Rattle.st_events.specs.Heap.{word_at}
-use Rattle.st_events.specs.World.{World, next, world_from, world_after, first_world}
-use Rattle.st_events.specs.Legal.{IsLegalNext, IsLegalFrom, IsLegal, Rule, first_failing, next_object, rules_of, exists, fits_cell, is_word, same_truth, args_fit, is_among}
+use Rattle.st_events.specs.World.{is_among, World, next, world_from, world_after, first_world}
+use Rattle.st_events.specs.Legal.{IsLegalNext, IsLegalFrom, IsLegal, Rule, first_failing, next_object, rules_of, exists, fits_cell, is_word, same_truth, args_fit}
 use Rattle.st_events.proofs.WorldLemmas.{world_after-append}
 
 -- the empty journal is legal
@@ -130,7 +130,7 @@ legal_new shape sizes w m obj class l =
       object = is_same obj (next_object sizes w m) next.0;
       room = is_below (w.made m) sizes.objects next.1;
       some_class = is_at_most 1 class known.0;
-      declared = is_below class (length shape.classes) known.1
+      declared = is_below class (length shape.classes) known.1;
     }
 
 pub legal_store : (shape : ShapeLists) (sizes : Sizes) (w : World) (m obj field value : ℕ) → IsLegalNext shape sizes w (Store m obj field value) → LegalStore shape sizes w m obj field value
@@ -151,7 +151,7 @@ legal_launch shape sizes w m number site args l =
       next_number = is_same number (w.epoch + 1) h.1.0;
       statement = is_below site (length shape.checks) h.1.1.0;
       arguments = h.1.1.1.0;
-      lane = is_below (length w.active) sizes.lanes h.1.1.1.1.0
+      lane = is_below (length w.active) sizes.lanes h.1.1.1.1.0;
     }
 
 pub legal_retire : (shape : ShapeLists) (sizes : Sizes) (w : World) (m number : ℕ) → IsLegalNext shape sizes w (Retire m number) → LegalRetire sizes w m number

@@ -64,6 +64,7 @@ next_is_absent shape sizes w m obj class r l = absent (w.heap obj) refl
         let made : i.k < w.made m = subst (λ (n : ℕ). i.k < w.made n) one i.made in
         let equal : w.made m ≡ i.k = let moved : m * sizes.objects + w.made m ≡ m * sizes.objects + i.k = subst (λ (n : ℕ). m * sizes.objects + w.made m ≡ n * sizes.objects + i.k) one same in omega (arith, moved) in
         omega (arith, made, equal)
+
     absent : (o : Option Object) → w.heap obj ≡ o → w.heap obj ≡ None
     absent None e = e
     absent (Some x) e = elim (r.objects obj x e) [ inl one ↦ absurd (omega (arith, one, l.object)) | inr i ↦ absurd (not_made i) ]
@@ -74,13 +75,15 @@ made_grows w m n = elim (eqb_tells n m) [ inl e ↦ rw e.0 (rw e.1 (omega arith)
 
 pub regions-new : (shape : ShapeLists) (sizes : Sizes) (w : World) (m obj class : ℕ) → AreRegions sizes w → LegalNew shape sizes w m obj class → AreRegions sizes (next shape sizes w (New m obj class))
 regions-new shape sizes w m obj class r l = record {
-    room = λ n. elim (eqb_tells n m) [ inl e ↦ rw e.0 (omega (arith, l.room)) | inr e ↦ rw e.0 (r.room n) ];
-    objects = λ o x h. elim (eqb_tells o obj) [
-        inl e ↦ inr (record { m = m; k = w.made m; thread = l.thread; made = rw at-same (omega arith); number = e.1 ∙ l.object })
-      | inr e ↦ elim (r.objects o x (sym (with_object-other w.heap obj (fresh shape class) o e.1) ∙ h)) [
-            inl one ↦ inl one
-          | inr i ↦ inr (record { m = i.m; k = i.k; thread = i.thread; made = omega (arith, i.made, made_grows w m i.m); number = i.number }) ] ]
-  }
+  room = λ n. elim (eqb_tells n m) [ inl e ↦ rw e.0 (omega (arith, l.room)) | inr e ↦ rw e.0 (r.room n) ];
+  objects = λ o x h. elim (eqb_tells o obj) [
+    | inl e ↦ inr (record { m = m; k = w.made m; thread = l.thread; made = rw at-same (omega arith); number = e.1 ∙ l.object })
+    | inr e ↦ elim (r.objects o x (sym (with_object-other w.heap obj (fresh shape class) o e.1) ∙ h)) [
+      | inl one ↦ inl one
+      | inr i ↦ inr (record { m = i.m; k = i.k; thread = i.thread; made = omega (arith, i.made, made_grows w m i.m); number = i.number })
+    ]
+  ];
+}
 
 -- what stands at a number after a change stood there before
 before_word : (heap : Heap) (obj field value o : ℕ) (x : Object) → with_word heap obj field value o ≡ Some x → (y : Object) × (heap o ≡ Some y)
@@ -92,6 +95,6 @@ before_word heap obj field value o x h = elim (eqb_tells o obj) [ inl e ↦ some
 
 pub regions-changed : (sizes : Sizes) (w : World) (obj field value : ℕ) → AreRegions sizes w → AreRegions sizes (changed sizes w obj field value)
 regions-changed sizes w obj field value r = record {
-    room = r.room;
-    objects = λ o x h. let was = before_word w.heap obj field value o x h in elim (r.objects o was.0 was.1) [ inl one ↦ inl one | inr i ↦ inr (record { m = i.m; k = i.k; thread = i.thread; made = i.made; number = i.number }) ]
-  }
+  room = r.room;
+  objects = λ o x h. let was = before_word w.heap obj field value o x h in elim (r.objects o was.0 was.1) [ inl one ↦ inl one | inr i ↦ inr (record { m = i.m; k = i.k; thread = i.thread; made = i.made; number = i.number }) ];
+}

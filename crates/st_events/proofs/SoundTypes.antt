@@ -56,29 +56,40 @@ zeros (kind ∷ kinds) zero word h = let e : word ≡ 0 = cc in (kind, refl, e)
 zeros (kind ∷ kinds) (suc field) word h = zeros kinds field word h
 
 pub classes-new : (heap : Heap) (obj : ℕ) (x : Object) → heap obj ≡ None → KeepsClasses heap (with_object heap obj x)
-classes-new heap obj x absent = record { kept = λ o class e. elim (eqb_tells o obj) [
-    inl same ↦ absurd (none o class same.1 e)
-  | inr other ↦ ap (option_map (λ (y : Object). y.class)) (with_object-other heap obj x o other.1) ∙ e ] }
+classes-new heap obj x absent = record {
+  kept = λ o class e. elim (eqb_tells o obj) [
+    | inl same ↦ absurd (none o class same.1 e)
+    | inr other ↦ ap (option_map (λ (y : Object). y.class)) (with_object-other heap obj x o other.1) ∙ e
+  ];
+}
   where
     none : (o class : ℕ) → o ≡ obj → class_at heap o ≡ Some class → ⊥
     none o class same e = let f : class_at heap o ≡ None = ap (option_map (λ (y : Object). y.class)) (ap heap same ∙ absent) in cc
 
-pub typed-new : (shape : ShapeLists) (heap : Heap) (obj class : ℕ) → heap obj ≡ None → class < length shape.classes → IsTypedHeap shape heap → IsTypedHeap shape (with_object heap obj (fresh shape class))
-typed-new shape heap obj class absent declared t =
+-- the objects of a heap are typed, whether it has the shared object or not
+pub record AreTyped (shape : ShapeLists) (heap : Heap) : Type 0 where
+  pub declared : (obj class : ℕ) → class_at heap obj ≡ Some class → class < length shape.classes
+  pub lengths : (obj : ℕ) (x : Object) → heap obj ≡ Some x → length x.words ≡ length (kinds_of shape x.class)
+  pub kinds : (obj field word : ℕ) → word_at heap obj field ≡ Some word → fits_cell shape heap obj field word ≡ true
+
+pub are_typed-new : (shape : ShapeLists) (heap : Heap) (obj class : ℕ) → heap obj ≡ None → class < length shape.classes → AreTyped shape heap → AreTyped shape (with_object heap obj (fresh shape class))
+are_typed-new shape heap obj class absent declared t =
     let later = with_object heap obj (fresh shape class) in
     let kept = classes-new heap obj (fresh shape class) absent in
     record {
-      shared = kept.kept 1 0 t.shared;
       declared = λ o c e. elim (eqb_tells o obj) [
-          inl same ↦ (let f : Some class ≡ Some c = sym (ap (λ (p : ℕ). class_at later p) same.1 ∙ ap (option_map (λ (y : Object). y.class)) (with_object-same heap obj (fresh shape class))) ∙ e in let g : class ≡ c = cc in subst (λ (n : ℕ). n < length shape.classes) g declared)
-        | inr other ↦ t.declared o c (sym (ap (option_map (λ (y : Object). y.class)) (with_object-other heap obj (fresh shape class) o other.1)) ∙ e) ];
+        | inl same ↦ (let f : Some class ≡ Some c = sym (ap (λ (p : ℕ). class_at later p) same.1 ∙ ap (option_map (λ (y : Object). y.class)) (with_object-same heap obj (fresh shape class))) ∙ e in let g : class ≡ c = cc in subst (λ (n : ℕ). n < length shape.classes) g declared)
+        | inr other ↦ t.declared o c (sym (ap (option_map (λ (y : Object). y.class)) (with_object-other heap obj (fresh shape class) o other.1)) ∙ e)
+      ];
       lengths = λ o x e. elim (eqb_tells o obj) [
-          inl same ↦ (let f : Some (fresh shape class) ≡ Some x = sym (ap later same.1 ∙ with_object-same heap obj (fresh shape class)) ∙ e in let g : fresh shape class ≡ x = cc in subst (λ (y : Object). length y.words ≡ length (kinds_of shape y.class)) g (length-map (kinds_of shape class) (λ _. 0)))
-        | inr other ↦ t.lengths o x (sym (with_object-other heap obj (fresh shape class) o other.1) ∙ e) ];
+        | inl same ↦ (let f : Some (fresh shape class) ≡ Some x = sym (ap later same.1 ∙ with_object-same heap obj (fresh shape class)) ∙ e in let g : fresh shape class ≡ x = cc in subst (λ (y : Object). length y.words ≡ length (kinds_of shape y.class)) g (length-map (kinds_of shape class) (λ _. 0)))
+        | inr other ↦ t.lengths o x (sym (with_object-other heap obj (fresh shape class) o other.1) ∙ e)
+      ];
       kinds = λ o field word e. elim (eqb_tells o obj) [
-          inl same ↦ new_word o field word same.1 e
+        | inl same ↦ new_word o field word same.1 e
         | inr other ↦ (let is = with_object-other heap obj (fresh shape class) o other.1 in
-            subst (λ (y : Option Object). has_kind_if_any later (kind_of shape y field) word ≡ true) (sym is) (has_kind_if_any-kept heap later kept (kind_of shape (heap o) field) word (t.kinds o field word (subst (λ (y : Option Object). word_of y field ≡ Some word) is e)))) ]
+            subst (λ (y : Option Object). has_kind_if_any later (kind_of shape y field) word ≡ true) (sym is) (has_kind_if_any-kept heap later kept (kind_of shape (heap o) field) word (t.kinds o field word (subst (λ (y : Option Object). word_of y field ≡ Some word) is e))))
+      ];
     }
   where
     new_word : (o field word : ℕ) → o ≡ obj → word_at (with_object heap obj (fresh shape class)) o field ≡ Some word → fits_cell shape (with_object heap obj (fresh shape class)) o field word ≡ true
@@ -88,6 +99,22 @@ typed-new shape heap obj class absent declared t =
         subst (λ (y : Option Object). has_kind_if_any (with_object heap obj (fresh shape class)) (kind_of shape y field) word ≡ true) (sym is)
         (subst (λ (kind : Option Kind). has_kind_if_any (with_object heap obj (fresh shape class)) kind word ≡ true) (sym z.1)
         (subst (λ (n : ℕ). has_kind (with_object heap obj (fresh shape class)) z.0 n ≡ true) (sym z.2) (has_kind-zero (with_object heap obj (fresh shape class)) z.0)))
+
+pub typed-new : (shape : ShapeLists) (heap : Heap) (obj class : ℕ) → heap obj ≡ None → class < length shape.classes → IsTypedHeap shape heap → IsTypedHeap shape (with_object heap obj (fresh shape class))
+typed-new shape heap obj class absent declared t =
+    let objects = are_typed-new shape heap obj class absent declared (record { declared = t.declared; lengths = t.lengths; kinds = t.kinds }) in
+    record { shared = (classes-new heap obj (fresh shape class) absent).kept 1 0 t.shared; declared = objects.declared; lengths = objects.lengths; kinds = objects.kinds }
+
+-- no object at all
+nowhere : Heap
+nowhere = λ o. None
+
+-- the shared object alone
+pub typed-first : (shape : ShapeLists) → IsWithinLimits shape → IsTypedHeap shape (first_heap shape)
+unfolding nowhere
+typed-first shape limits =
+    let objects = are_typed-new shape nowhere 1 0 refl limits.some_class (record { declared = λ obj class h. cc; lengths = λ obj x h. cc; kinds = λ obj field word h. cc }) in
+    record { shared = refl; declared = objects.declared; lengths = objects.lengths; kinds = objects.kinds }
 
 -- ---- a change
 
@@ -105,15 +132,18 @@ kind_of-with_word shape heap obj field value o place = elim (eqb_tells o obj) [ 
 pub word_of-set_word : (x : Option Object) (field value place word : ℕ) → word_of (option_map (set_word field value) x) place ≡ Some word → (word_of x place ≡ Some word) ⊎ ((place ≡ field) × (word ≡ value))
 word_of-set_word None field value place word h = inl h
 word_of-set_word (Some x) field value place word h = elim (eqb_tells place field) [
-    inl e ↦ inr (e.1, value_is e.1)
-  | inr e ↦ inl (sym (other e.1) ∙ h) ]
+  | inl e ↦ inr (e.1, value_is e.1)
+  | inr e ↦ inl (sym (other e.1) ∙ h)
+]
   where
     within : place ≡ field → field < length x.words
     within e = let l = slice_get_within (slice_set x.words field value) place word h in omega (arith, l, e, length-set x.words field value)
+
     value_is : place ≡ field → word ≡ value
     value_is e =
         let put : slice_get (slice_set x.words field value) place ≡ cond (place == field) (Some value) (slice_get x.words place) = slice_get-set x.words field value place (within e) in
         elim (eqb_tells place field) [ inl t ↦ (let f : Some word ≡ Some value = sym h ∙ put ∙ ap (λ (b : Bool). cond b (Some value) (slice_get x.words place)) t.0 in cc) | inr t ↦ absurd (t.1 e) ]
+
     other : place ≢ field → slice_get (slice_set x.words field value) place ≡ slice_get x.words place
     other ne = unchanged x.words field value place ne
       where
@@ -132,13 +162,16 @@ typed-changed shape heap obj field value fits t =
       shared = kept.kept 1 0 t.shared;
       declared = λ o c e. t.declared o c (sym (class_at-with_word heap obj field value o) ∙ e);
       lengths = λ o x e. elim (eqb_tells o obj) [
-          inl same ↦ lengths_here o x (heap o) refl (sym (rw same.0 refl) ∙ e)
-        | inr other ↦ t.lengths o x (sym (with_word-other heap obj field value o other.1) ∙ e) ];
+        | inl same ↦ lengths_here o x (heap o) refl (sym (rw same.0 refl) ∙ e)
+        | inr other ↦ t.lengths o x (sym (with_word-other heap obj field value o other.1) ∙ e)
+      ];
       kinds = λ o place word e. subst (λ (kind : Option Kind). has_kind_if_any later kind word ≡ true) (sym (kind_of-with_word shape heap obj field value o place)) (has_kind_if_any-kept heap later kept (kind_of shape (heap o) place) word (elim (eqb_tells o obj) [
-          inl same ↦ (elim (word_of-set_word (heap o) field value place word (subst (λ (y : Option Object). word_of y place ≡ Some word) (rw same.0 refl) e)) [
-              inl old ↦ t.kinds o place word old
-            | inr new ↦ rw (same.1, new.0, new.1) fits ])
-        | inr other ↦ t.kinds o place word (subst (λ (y : Option Object). word_of y place ≡ Some word) (with_word-other heap obj field value o other.1) e) ]))
+        | inl same ↦ (elim (word_of-set_word (heap o) field value place word (subst (λ (y : Option Object). word_of y place ≡ Some word) (rw same.0 refl) e)) [
+          | inl old ↦ t.kinds o place word old
+          | inr new ↦ rw (same.1, new.0, new.1) fits
+        ])
+        | inr other ↦ t.kinds o place word (subst (λ (y : Option Object). word_of y place ≡ Some word) (with_word-other heap obj field value o other.1) e)
+      ]));
     }
   where
     lengths_here : (o : ℕ) (x : Object) (y : Option Object) → heap o ≡ y → option_map (set_word field value) y ≡ Some x → length x.words ≡ length (kinds_of shape x.class)

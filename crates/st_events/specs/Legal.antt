@@ -1,5 +1,5 @@
 use Rattle.std.specs.Prelude.{◌≡◌, ℕ, ◌+◌, ◌*◌, ◌==◌, nat_lt, nat_le, Bool, true, false, not, ◌&&◌, ◌||◌, cond, List, [], ◌∷◌, ◌++◌, length, drop, Option, Some, None, is_some, slice_get}
-use Rattle.std.specs.List.{list_any, list_all}
+use Rattle.std.specs.List.{list_all}
 use Rattle.st_events.specs.declared.events.Event.{Event}
 use Rattle.st_events.specs.declared.events.Event.TheVariants.{New, Load, Store, Cas, Launch, Retire}
 use Rattle.st_events.specs.declared.events.Args.{Args}
@@ -10,7 +10,7 @@ use Rattle.st_events.specs.declared.shapes.Kind.{Kind}
 use Rattle.st_events.specs.declared.shapes.Kind.TheVariants.{Int, Bool as Truth, Ref}
 use Rattle.st_events.specs.Shape.{ShapeLists, kinds_of}
 use Rattle.st_events.specs.Heap.{Heap, Object, class_at, word_at}
-use Rattle.st_events.specs.World.{World, next, first_world, world_after}
+use Rattle.st_events.specs.World.{is_among, World, next, first_world, world_after}
 
 -- whether the object exists
 abbrev pub exists : Heap → ℕ → Bool
@@ -65,10 +65,6 @@ next_object sizes w m = 2 + m * sizes.objects + w.made m
 abbrev pub same_truth : Bool → Bool → Bool
 same_truth true b = b
 same_truth false b = not b
-
--- the number is one of the list's
-abbrev pub is_among : List ℕ → ℕ → Bool
-is_among ns number = list_any (λ n. n == number) ns
 
 -- a test, and the reason that stands where it fails
 pub record Rule : Type 0 where

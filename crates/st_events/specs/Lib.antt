@@ -5,6 +5,7 @@ pub mod Journal
 pub mod Kind
 pub mod Legal
 pub mod Ran
+pub mod Seen
 pub mod Shape
 pub mod Sizes
 pub mod Sound

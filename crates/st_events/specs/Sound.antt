@@ -1,11 +1,10 @@
-use Rattle.std.specs.Prelude.{◌≡◌, ℕ, ◌+◌, ◌*◌, ◌<◌, ◌≤◌, ◌⊎◌, ◌↔◌, true, List, [], length, Option, Some, None, IsSome}
-use Rattle.std.specs.List.{AllPairs}
+use Rattle.std.specs.Prelude.{◌≡◌, ℕ, ◌+◌, ◌*◌, ◌<◌, ◌≤◌, ◌⊎◌, true, List, [], ◌∷◌, length, Option, Some, None, IsSome}
 use Rattle.st_events.specs.declared.events.Event.{Event}
 use Rattle.st_events.specs.declared.limits.Sizes.{Sizes}
 use Rattle.st_events.specs.Shape.{ShapeLists, IsWithinLimits, kinds_of}
 use Rattle.st_events.specs.Heap.{Heap, Object, class_at, word_at}
-use Rattle.st_events.specs.World.{World, Launched, Row, Pair}
-use Rattle.st_events.specs.Legal.{fits_cell, is_among}
+use Rattle.st_events.specs.World.{World, Launched, is_among, is_kept, is_lost}
+use Rattle.st_events.specs.Legal.{fits_cell}
 
 -- the heap has the shared object; its classes are declared; an object has a word for each field of its class; and each
 -- word has the kind of its cell
@@ -37,13 +36,15 @@ pub record AreLaunches (w : World) : Type 0 where
   pub launched : (n : ℕ) → 1 ≤ n → n ≤ w.epoch → (l : Launched) × (w.launched n ≡ Some l)
   pub only : (n : ℕ) (l : Launched) → w.launched n ≡ Some l → (1 ≤ n) × (n ≤ w.epoch)
 
--- each number is above all before it
+-- each number is below all that follow it
 abbrev pub IsRising : List ℕ → Type 0
-IsRising ns = AllPairs (λ n k. n < k) ns
+IsRising [] = Unit {0}
+IsRising (n ∷ ns) = ((k : ℕ) → is_among ns k ≡ true → n < k) × IsRising ns
 
 -- the active checks are launched, in order, and no more than there are lanes
 pub record AreActive (sizes : Sizes) (w : World) : Type 0 where
   pub lanes : length w.active ≤ sizes.lanes
+  pub rising : IsRising w.active
   pub launched : (n : ℕ) → is_among w.active n ≡ true → (1 ≤ n) × (n ≤ w.epoch)
 
 -- no stamp is above the epoch, and what was not made has stamp 0
@@ -54,3 +55,30 @@ pub record AreStamps (w : World) : Type 0 where
 -- what has not changed since a launch is as it was then
 pub record ArePasts (w : World) : Type 0 where
   pub same : (obj n : ℕ) (l : Launched) → w.launched n ≡ Some l → w.stamp obj < n → l.past obj ≡ w.heap obj
+
+-- a check is noted with an object only where it is launched, the object stood in the heap at its launch, and the object has
+-- changed since
+pub record IsNoted (w : World) (obj n : ℕ) : Type 0 where
+  pub launch : Launched
+  pub launched : w.launched n ≡ Some launch
+  pub stood : IsSome (launch.past obj)
+  pub changed : n ≤ w.stamp obj
+
+-- no more copies are kept than there are; what is kept or lost for a check is an old version of an object that stood in the
+-- heap at its launch; and each such version that an active check needs is kept or lost
+pub record AreCopies (sizes : Sizes) (w : World) : Type 0 where
+  pub copies : length w.kept ≤ sizes.copies
+  pub kept_active : (obj n : ℕ) → is_kept w.kept obj n ≡ true → is_among w.active n ≡ true
+  pub kept_noted : (obj n : ℕ) → is_kept w.kept obj n ≡ true → IsNoted w obj n
+  pub lost_noted : (obj n : ℕ) → is_lost w.lost obj n ≡ true → IsNoted w obj n
+  pub whole : (obj n : ℕ) → is_among w.active n ≡ true → IsNoted w obj n → (is_kept w.kept obj n ≡ true) ⊎ (is_lost w.lost obj n ≡ true)
+
+-- all that holds after a legal journal
+pub record IsSound (shape : ShapeLists) (sizes : Sizes) (w : World) : Type 0 where
+  pub typed : IsTypedHeap shape w.heap
+  pub regions : AreRegions sizes w
+  pub launches : AreLaunches w
+  pub active : AreActive sizes w
+  pub stamps : AreStamps w
+  pub pasts : ArePasts w
+  pub copies : AreCopies sizes w

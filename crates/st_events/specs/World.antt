@@ -1,4 +1,5 @@
-use Rattle.std.specs.Prelude.{ℕ, ◌+◌, ◌==◌, nat_lt, Bool, cond, not, List, [], ◌∷◌, ◌++◌, length, map, filter, Option, Some, None}
+use Rattle.std.specs.Prelude.{ℕ, ◌+◌, ◌==◌, nat_lt, Bool, cond, not, ◌&&◌, List, [], ◌∷◌, ◌++◌, length, map, filter, Option, Some, None}
+use Rattle.std.specs.List.{list_any}
 use Rattle.st_events.specs.declared.events.Event.{Event}
 use Rattle.st_events.specs.declared.events.Event.TheVariants.{New, Load, Store, Cas, Launch, Retire}
 use Rattle.st_events.specs.declared.events.Args.{Args}
@@ -67,6 +68,18 @@ lost_at_change sizes w obj = cond (is_full sizes w) (w.lost ++ map (λ n. record
 -- after one word of an object was set
 abbrev pub changed : Sizes → World → ℕ → ℕ → ℕ → World
 changed sizes w obj field value = record w { heap = with_word w.heap obj field value; stamp = at obj w.epoch w.stamp; kept = kept_at_change sizes w obj; lost = lost_at_change sizes w obj }
+
+-- the number is one of the list's
+abbrev pub is_among : List ℕ → ℕ → Bool
+is_among ns number = list_any (λ n. n == number) ns
+
+-- whether a copy is kept of this object for this check
+abbrev pub is_kept : List Row → ℕ → ℕ → Bool
+is_kept rows obj number = list_any (λ row. (row.obj == obj) && is_among row.checks number) rows
+
+-- whether the version of this object is lost for this check
+abbrev pub is_lost : List Pair → ℕ → ℕ → Bool
+is_lost pairs obj number = list_any (λ pair. (pair.obj == obj) && (pair.check == number)) pairs
 
 -- the checks but for one
 abbrev pub without : ℕ → List ℕ → List ℕ

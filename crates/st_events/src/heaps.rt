@@ -1,6 +1,7 @@
 //! A heap in memory: the objects of every mutator's region in one vector, by number.
 ghost use Rattle.std.specs.Prelude.{◌≡◌, ◌+◌, ◌*◌, ◌<◌, ◌≤◌, length, IfOk, IsSome};
 ghost use Rattle.st_events.specs.Heap.{heap_of, word_at, class_at, with_object, with_word, fresh, first_heap};
+ghost use Rattle.st_events.specs.Legal.{is_of_class};
 ghost use Rattle.st_events.specs.Shape.{IsWithinLimits};
 ghost use Rattle.st_events.specs.Sizes.{AreWithinLimits};
 
@@ -91,6 +92,16 @@ impl HeapMap {
         ensures { result ≡ class_at (heap_of self.now) obj }
     {
         self.cells.get(obj as usize)?.class
+    }
+
+    /// Whether a word is the number of an object of the class.
+    pub fn is_of_class(&self, word: u64, class: u8) -> bool
+        ensures { result ≡ is_of_class (class_at (heap_of self.now) word) class }
+    {
+        match self.cells.get(word as usize) {
+            Some(cell) => cell.class == Some(class),
+            None => false,
+        }
     }
 }
 

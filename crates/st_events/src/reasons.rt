@@ -1,4 +1,8 @@
 //! Why an event is not legal, and what `replay` answers then.
+ghost use Rattle.std.specs.Prelude.{◌≡◌};
+ghost use Rattle.st_events.specs.declared.reasons.ReplayError.TheVariants.{Memory};
+
+use crate::refusals::NoMemory;
 
 /// The first reason that applies, in the order of this list, where an event is not legal after those before it.
 #[derive(Clone, Copy, Debug, PartialEq, Eq)]
@@ -19,4 +23,21 @@ pub enum Why {
     WrongDone,
     /// As many checks are active as there are lanes.
     NoLane,
+}
+
+/// What `replay` answers where it gives no heap.
+#[derive(Clone, Copy, Debug, PartialEq, Eq)]
+pub enum ReplayError {
+    /// Memory was refused.
+    Memory,
+    /// The event at this place, from 0, is the first that is not legal after those before it, for this first reason.
+    NotLegal { place: u32, why: Why },
+}
+
+impl From<NoMemory> for ReplayError {
+    ghost from_gives = { λ _ e. e ≡ Memory };
+
+    fn from(_error: NoMemory) -> ReplayError {
+        ReplayError::Memory
+    }
 }

@@ -1,0 +1,88 @@
+-- What holds after every legal journal
+use Rattle.std.proofs.Common.{◌≡◌, ◌≢◌, ℕ, ◌+◌, ◌*◌, ◌<◌, ◌≤◌, ◌==◌, cond, Bool, true, false, ◌⊎◌, inl, inr, List, [], ◌∷◌, ◌++◌, length, map, Option, Some, None, refl, sym, ◌∙◌, ap, subst, arith, IsSome}
+use Rattle.std.specs.Option.{option_map}
+use Rattle.std.proofs.lemmas.List.{length-map}
+use Rattle.std.proofs.lemmas.Bool.Decides.{eqb_tells}
+use Rattle.st_events.specs.declared.events.Event.{Event}
+use Rattle.st_events.specs.declared.events.Event.TheVariants.{New, Load, Store, Cas, Launch, Retire}
+use Rattle.st_events.specs.declared.limits.Sizes.{Sizes}
+use Rattle.st_events.specs.Shape.{ShapeLists, IsWithinLimits, kinds_of}
+use Rattle.st_events.specs.Heap.{Heap, Object, class_at, word_at, word_of, fresh, first_heap, with_object}
+use Rattle.st_events.specs.World.{World, next, first_world, world_after, changed}
+use Rattle.st_events.specs.Legal.{IsLegalNext, IsLegal, fits_cell}
+use Rattle.st_events.specs.Sound.{IsTypedHeap, IsSound, AreRegions, AreLaunches, AreActive, AreStamps, ArePasts, AreCopies, IsNoted}
+use Rattle.st_events.proofs.LegalLemmas.{stays, legal_new, legal_store, legal_cas, legal_launch, legal_retire, LegalStore}
+use Rattle.st_events.proofs.SoundHeap.{next_is_absent, regions-new, regions-changed}
+use Rattle.st_events.proofs.SoundTypes.{typed-first, typed-new, typed-changed}
+use Rattle.st_events.proofs.SoundChecks.{launches-launch, active-launch, active-retire, stamps-new, stamps-changed, pasts-new, pasts-changed, pasts-launch}
+use Rattle.st_events.proofs.SoundCopies.{copies-new, copies-changed, copies-launch, copies-retire}
+
+-- before the first event
+pub sound-first : (shape : ShapeLists) (sizes : Sizes) → IsWithinLimits shape → IsSound shape sizes (first_world shape)
+sound-first shape sizes limits = record {
+  typed = typed-first shape limits;
+  regions = record { room = λ m. omega arith; objects = λ obj x h. elim (eqb_tells obj 1) [ inl e ↦ inl e.1 | inr e ↦ absurd (nothing obj x e.0 h) ] };
+  launches = record { launched = λ n low high. absurd (omega arith); only = λ n l h. cc };
+  active = record { lanes = omega arith; rising = tt; launched = λ n h. cc };
+  stamps = record { epoch = λ obj. omega arith; unmade = λ obj h. refl };
+  pasts = record { same = λ obj n l h below. cc };
+  copies = record { copies = omega arith; kept_active = λ o n h. cc; kept_noted = λ o n h. cc; lost_noted = λ o n h. cc; whole = λ o n h i. cc };
+}
+  where
+    nothing : (obj : ℕ) (x : Object) → (obj == 1) ≡ false → first_heap shape obj ≡ Some x → ⊥
+    nothing obj x e h = let f : None ≡ Some x = sym (ap (λ (b : Bool). cond b (Some (fresh shape 0)) None) e) ∙ h in cc
+
+-- one change
+sound-changed : (shape : ShapeLists) (sizes : Sizes) (w : World) (m obj field value : ℕ) → LegalStore shape sizes w m obj field value → IsSound shape sizes w → IsSound shape sizes (changed sizes w obj field value)
+sound-changed shape sizes w m obj field value l s = record {
+  typed = typed-changed shape w.heap obj field value l.kind s.typed;
+  regions = regions-changed sizes w obj field value s.regions;
+  launches = record { launched = s.launches.launched; only = s.launches.only };
+  active = record { lanes = s.active.lanes; rising = s.active.rising; launched = s.active.launched };
+  stamps = stamps-changed sizes w obj field value l.object s.stamps;
+  pasts = pasts-changed sizes w obj field value s.launches s.pasts;
+  copies = copies-changed sizes w obj field value l.object s.launches s.active s.pasts s.copies;
+}
+
+-- one more event
+pub sound-next : (shape : ShapeLists) (sizes : Sizes) (w : World) (e : Event) → IsSound shape sizes w → IsLegalNext shape sizes w e → IsSound shape sizes (next shape sizes w e)
+sound-next shape sizes w (New m obj class) s l =
+    let legal = legal_new shape sizes w m obj class l in
+    let absent = next_is_absent shape sizes w m obj class s.regions legal in
+    record {
+      typed = typed-new shape w.heap obj class absent legal.declared s.typed;
+      regions = regions-new shape sizes w m obj class s.regions legal;
+      launches = record { launched = s.launches.launched; only = s.launches.only };
+      active = record { lanes = s.active.lanes; rising = s.active.rising; launched = s.active.launched };
+      stamps = stamps-new shape sizes w m obj class s.stamps;
+      pasts = pasts-new shape sizes w m obj class s.launches s.pasts;
+      copies = copies-new shape sizes w m obj class absent s.launches s.stamps s.pasts s.copies;
+    }
+sound-next shape sizes w (Load m obj field value) s l = s
+sound-next shape sizes w (Store m obj field value) s l = sound-changed shape sizes w m obj field value (legal_store shape sizes w m obj field value l) s
+sound-next shape sizes w (Cas m obj field expect value true) s l = sound-changed shape sizes w m obj field value (legal_cas shape sizes w m obj field expect value true l) s
+sound-next shape sizes w (Cas m obj field expect value false) s l = s
+sound-next shape sizes w (Launch m number site args) s l =
+    let legal = legal_launch shape sizes w m number site args l in
+    record {
+      typed = s.typed;
+      regions = record { room = s.regions.room; objects = λ o x h. elim (s.regions.objects o x h) [ inl one ↦ inl one | inr i ↦ inr (record { m = i.m; k = i.k; thread = i.thread; made = i.made; number = i.number }) ] };
+      launches = launches-launch shape sizes w m number site args s.launches legal;
+      active = active-launch shape sizes w m number site args s.active legal;
+      stamps = record { epoch = λ o. omega (arith, s.stamps.epoch o); unmade = s.stamps.unmade };
+      pasts = pasts-launch shape sizes w m number site args s.pasts;
+      copies = copies-launch shape sizes w m number site args legal s.launches s.stamps s.copies;
+    }
+sound-next shape sizes w (Retire m number) s l = record {
+  typed = s.typed;
+  regions = record { room = s.regions.room; objects = λ o x h. elim (s.regions.objects o x h) [ inl one ↦ inl one | inr i ↦ inr (record { m = i.m; k = i.k; thread = i.thread; made = i.made; number = i.number }) ] };
+  launches = record { launched = s.launches.launched; only = s.launches.only };
+  active = active-retire shape sizes w m number s.active;
+  stamps = record { epoch = s.stamps.epoch; unmade = s.stamps.unmade };
+  pasts = record { same = s.pasts.same };
+  copies = copies-retire shape sizes w m number s.copies;
+}
+
+-- all of it, after every legal journal
+pub sound_after : (shape : ShapeLists) (sizes : Sizes) → IsWithinLimits shape → (es : List Event) → IsLegal shape sizes es → IsSound shape sizes (world_after shape sizes es)
+sound_after shape sizes limits es l = stays shape sizes (λ w. IsSound shape sizes w) (sound-first shape sizes limits) (λ w e s n. sound-next shape sizes w e s n) es l
