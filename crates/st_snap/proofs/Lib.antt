@@ -1,4 +1,10 @@
+mod AnyLemmas
+mod ForwardLemmas
 mod HeaderLemmas
+mod LaneLemmas
 mod ListLemmas
 mod PoolLemmas
+mod RepresentsSteps
+mod RowLemmas
 mod TableLemmas
+mod TargetLemmas

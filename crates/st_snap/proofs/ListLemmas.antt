@@ -38,3 +38,9 @@ pub found-at : {X : Type 0} (xs : List X) (i : ℕ) (x : X) → i < length xs �
 found-at [] i x h e = absurd (omega arith)
 found-at (y ∷ ys) zero x h e = ap Some (sym e)
 found-at (y ∷ ys) (suc i) x h e = found-at ys i x (omega arith) e
+
+-- what was changed stood there before
+pub adjust-found : {X : Type 0} (f : X → X) (xs : List X) (i : ℕ) (y : X) → slice_get (adjust f xs i) i ≡ Some y → (x : X) × (slice_get xs i ≡ Some x) × (y ≡ f x)
+adjust-found f [] i y e = cc
+adjust-found f (x ∷ xs) zero y e = (x, refl, let s : f x ≡ y = cc in sym s)
+adjust-found f (x ∷ xs) (suc i) y e = adjust-found f xs i y e
