@@ -4,6 +4,7 @@ mod HeaderLemmas
 mod LaneLemmas
 mod ListLemmas
 mod PoolLemmas
+mod RepresentsChange
 mod RepresentsSteps
 mod RowLemmas
 mod TableLemmas
