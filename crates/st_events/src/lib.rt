@@ -15,12 +15,12 @@ mod shapes;
 mod verdicts;
 
 pub use events::{Args, Event, Site};
-pub use heaps::HeapMap;
+pub use heaps::{FIRST_OF_REGIONS, HeapMap};
 pub use journals::Journal;
-pub use limits::Sizes;
+pub use limits::{MOST_LANES, Sizes};
 pub use reasons::{ReplayError, Why};
 pub use refusals::{Lost, NoLane, NoMemory};
 pub use replays::replay;
 pub use runs::Ran;
-pub use shapes::{Kind, Shape};
+pub use shapes::{Kind, MOST_FIELDS, Shape};
 pub use verdicts::{End, Plain, Verdict};

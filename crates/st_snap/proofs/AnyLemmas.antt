@@ -17,7 +17,7 @@ bool_same false false f g = refl
 pub any_found : {X : Type 0} (p : X → Bool) (xs : List X) → list_any p xs ≡ true → (k : ℕ) × (x : X) × (slice_get xs k ≡ Some x) × (p x ≡ true)
 any_found p [] h = cc
 any_found p (x ∷ xs) h = elim (or_cases (p x) (list_any p xs) h) [
-    inl e ↦ (0, x, refl, e)
+  | inl e ↦ (0, x, refl, e)
   | inr r ↦ let f = any_found p xs r in (suc f.0, f.1, f.2, f.3)
 ]
 
@@ -31,14 +31,14 @@ found_any p (y ∷ ys) (suc k) x h t = or_second (p y) (list_any p ys) (found_an
 pub among_any : (p : ℕ → Bool) (ns : List ℕ) (n : ℕ) → is_among ns n ≡ true → p n ≡ true → list_any p ns ≡ true
 among_any p [] n h t = cc
 among_any p (x ∷ xs) n h t = elim (or_cases (x == n) (is_among xs n) h) [
-    inl e ↦ or_first (p x) (list_any p xs) (ap p (same_numbers x n e) ∙ t)
+  | inl e ↦ or_first (p x) (list_any p xs) (ap p (same_numbers x n e) ∙ t)
   | inr r ↦ or_second (p x) (list_any p xs) (among_any p xs n r t)
 ]
 
 pub any_among : (p : ℕ → Bool) (ns : List ℕ) → list_any p ns ≡ true → (n : ℕ) × (is_among ns n ≡ true) × (p n ≡ true)
 any_among p [] h = cc
 any_among p (x ∷ xs) h = elim (or_cases (p x) (list_any p xs) h) [
-    inl e ↦ (x, or_first (x == x) (is_among xs x) (same_number x), e)
+  | inl e ↦ (x, or_first (x == x) (is_among xs x) (same_number x), e)
   | inr r ↦ let f = any_among p xs r in (f.0, or_second (x == f.0) (is_among xs f.0) f.1, f.2)
 ]
 
@@ -89,7 +89,7 @@ without-none n (x ∷ xs) h = cases (x == n) (is_among xs n) h (without-none n x
 pub length-without : (n : ℕ) (ns : List ℕ) → IsRising ns → is_among ns n ≡ true → length (without n ns) + 1 ≡ length ns
 length-without n [] r h = cc
 length-without n (x ∷ xs) r h = elim (eqb_tells x n) [
-    inl e ↦ rw (e.0, without-none n xs (not_among (is_among xs n) refl e.1)) (omega arith)
+  | inl e ↦ rw (e.0, without-none n xs (not_among (is_among xs n) refl e.1)) (omega arith)
   | inr e ↦ rw e.0 (let rest : is_among xs n ≡ true = ap (λ b. b || is_among xs n) (sym e.0) ∙ h in omega (arith, length-without n xs r.1 rest))
 ]
   where

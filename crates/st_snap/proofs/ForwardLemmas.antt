@@ -17,6 +17,7 @@ one-forwarded stamp target (Some k) f = record { cases = cases (nat_lt stamp k) 
   where
     at_most : (a b : ℕ) → nat_lt a b ≡ false → b ≤ a
     at_most a b e = grind (arith, nat_tests)
+
     cases : (b : Bool) → nat_lt stamp k ≡ b → ((cond b (record { epoch = k; target = target }) f ≡ f) × ((n : ℕ) → Some (Some k) ≡ Some (Some n) → n ≤ stamp)) ⊎ ((n : ℕ) × (Some (Some k) ≡ Some (Some n)) × (stamp < n) × ((cond b (record { epoch = k; target = target }) f).epoch ≡ n) × ((cond b (record { epoch = k; target = target }) f).target ≡ target))
     cases true e = inr (k, refl, is_below stamp k e, refl, refl)
     cases false e = inl (refl, λ n s. let t : k ≡ n = cc in omega (arith, at_most stamp k e))

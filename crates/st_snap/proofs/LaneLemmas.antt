@@ -61,23 +61,23 @@ AreLanes-launch sizes active lanes i n a e new =
       room = length-set lanes i (Some n) ∙ a.room;
       idle = omega (arith, a.idle, count-set lanes i None (Some n) e, length-append active (n ∷ []));
       are_active = λ lane k f. elim (eqb_tells lane i) [
-          inl s ↦ is_among-back active (n ∷ []) k (or_first (n == k) false (subst (λ (j : ℕ). (j == k) ≡ true) (sym (same n k (sym (set-same lanes i (Some n) here) ∙ ap (slice_get (slice_set lanes i (Some n))) (sym s.1) ∙ f))) (same_number k)))
+        | inl s ↦ is_among-back active (n ∷ []) k (or_first (n == k) false (subst (λ (j : ℕ). (j == k) ≡ true) (sym (same n k (sym (set-same lanes i (Some n) here) ∙ ap (slice_get (slice_set lanes i (Some n))) (sym s.1) ∙ f))) (same_number k)))
         | inr s ↦ is_among-front active (n ∷ []) k (a.are_active lane k (sym (set-other lanes i (Some n) lane here s.1) ∙ f))
       ];
       have_lanes = λ k h. elim (is_among-snoc active n k h) [
-          inl old ↦ (let l = a.have_lanes k old in (l.0, set-other lanes i (Some n) l.0 here (λ s. let f : slice_get lanes i ≡ Some (Some k) = ap (slice_get lanes) (sym s) ∙ l.1 in cc) ∙ l.1))
+        | inl old ↦ (let l = a.have_lanes k old in (l.0, set-other lanes i (Some n) l.0 here (λ s. let f : slice_get lanes i ≡ Some (Some k) = ap (slice_get lanes) (sym s) ∙ l.1 in cc) ∙ l.1))
         | inr s ↦ (i, set-same lanes i (Some n) here ∙ ap (λ (j : ℕ). Some (Some j)) (sym s))
       ];
       once = λ lane other k f g. elim (eqb_tells lane i) [
-          inl s ↦ elim (eqb_tells other i) [
-              inl o ↦ s.1 ∙ sym o.1
-            | inr o ↦ absurd (new k (a.are_active other k (sym (set-other lanes i (Some n) other here o.1) ∙ g)) (sym (same n k (sym (set-same lanes i (Some n) here) ∙ ap (slice_get (slice_set lanes i (Some n))) (sym s.1) ∙ f))))
-          ]
+        | inl s ↦ elim (eqb_tells other i) [
+          | inl o ↦ s.1 ∙ sym o.1
+          | inr o ↦ absurd (new k (a.are_active other k (sym (set-other lanes i (Some n) other here o.1) ∙ g)) (sym (same n k (sym (set-same lanes i (Some n) here) ∙ ap (slice_get (slice_set lanes i (Some n))) (sym s.1) ∙ f))))
+        ]
         | inr s ↦ elim (eqb_tells other i) [
-              inl o ↦ absurd (new k (a.are_active lane k (sym (set-other lanes i (Some n) lane here s.1) ∙ f)) (sym (same n k (sym (set-same lanes i (Some n) here) ∙ ap (slice_get (slice_set lanes i (Some n))) (sym o.1) ∙ g))))
-            | inr o ↦ a.once lane other k (sym (set-other lanes i (Some n) lane here s.1) ∙ f) (sym (set-other lanes i (Some n) other here o.1) ∙ g)
-          ]
-      ]
+          | inl o ↦ absurd (new k (a.are_active lane k (sym (set-other lanes i (Some n) lane here s.1) ∙ f)) (sym (same n k (sym (set-same lanes i (Some n) here) ∙ ap (slice_get (slice_set lanes i (Some n))) (sym o.1) ∙ g))))
+          | inr o ↦ a.once lane other k (sym (set-other lanes i (Some n) lane here s.1) ∙ f) (sym (set-other lanes i (Some n) other here o.1) ∙ g)
+        ]
+      ];
     }
   where
     same : (x y : ℕ) → Some (Some x) ≡ Some (Some y) → x ≡ y
@@ -92,14 +92,15 @@ AreLanes-retire sizes active lanes i n a rising e =
       idle = omega (arith, a.idle, count-set lanes i (Some n) None e, length-without n active rising (a.are_active i n e));
       are_active = λ lane k f. let o = old here lane k f in without-is_among n active k (a.are_active lane k o.1) (λ s. o.0 (a.once lane i n (o.1 ∙ ap (λ (j : ℕ). Some (Some j)) s) e));
       have_lanes = λ k h. let w = is_among-without n active k h in let l = a.have_lanes k w.0 in (l.0, set-other lanes i None l.0 here (λ s. w.1 (same k n (sym l.1 ∙ ap (slice_get lanes) s ∙ e))) ∙ l.1);
-      once = λ lane other k f g. a.once lane other k (old here lane k f).1 (old here other k g).1
+      once = λ lane other k f g. a.once lane other k (old here lane k f).1 (old here other k g).1;
     }
   where
     same : (x y : ℕ) → Some (Some x) ≡ Some (Some y) → x ≡ y
     same x y e = cc
+
     old : i < length lanes → (lane k : ℕ) → slice_get (slice_set lanes i None) lane ≡ Some (Some k) → (lane ≢ i) × (slice_get lanes lane ≡ Some (Some k))
     old here lane k f = elim (eqb_tells lane i) [
-        inl s ↦ (let g : Some None ≡ Some (Some k) = sym (set-same lanes i None here) ∙ ap (slice_get (slice_set lanes i None)) (sym s.1) ∙ f in cc)
+      | inl s ↦ (let g : Some None ≡ Some (Some k) = sym (set-same lanes i None here) ∙ ap (slice_get (slice_set lanes i None)) (sym s.1) ∙ f in cc)
       | inr s ↦ (s.1, sym (set-other lanes i None lane here s.1) ∙ f)
     ]
 
@@ -118,7 +119,7 @@ clear-none : (n : ℕ) (lanes : List (Option ℕ)) → ((j : ℕ) → slice_get 
 clear-none n [] none = refl
 clear-none n (None ∷ lanes) none = ap (λ ls. None ∷ ls) (clear-none n lanes (λ j. none (suc j)))
 clear-none n (Some k ∷ lanes) none = elim (eqb_tells k n) [
-    inl s ↦ absurd (none 0 (ap (λ (j : ℕ). Some (Some j)) s.1))
+  | inl s ↦ absurd (none 0 (ap (λ (j : ℕ). Some (Some j)) s.1))
   | inr s ↦ rw (s.0, clear-none n lanes (λ j. none (suc j))) refl
 ]
 
@@ -130,6 +131,6 @@ clear-set n (lane ∷ lanes) zero e only = rw (same lane e, clear-none n lanes (
     same l f = cc
 clear-set n (None ∷ lanes) (suc i) e only = ap (λ ls. None ∷ ls) (clear-set n lanes i e (λ j f. let s = only (suc j) f in omega arith))
 clear-set n (Some k ∷ lanes) (suc i) e only = elim (eqb_tells k n) [
-    inl s ↦ absurd (omega (arith, only 0 (ap (λ (j : ℕ). Some (Some j)) s.1)))
+  | inl s ↦ absurd (omega (arith, only 0 (ap (λ (j : ℕ). Some (Some j)) s.1)))
   | inr s ↦ rw s.0 (ap (λ ls. Some k ∷ ls) (clear-set n lanes i e (λ j f. let t = only (suc j) f in omega arith)))
 ]

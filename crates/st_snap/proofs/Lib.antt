@@ -1,9 +1,12 @@
 mod AnyLemmas
 mod ForwardLemmas
 mod HeaderLemmas
+mod HoldsLemmas
 mod LaneLemmas
+mod LegalEvents
 mod ListLemmas
 mod PoolLemmas
+mod ReadLemmas
 mod RepresentsChange
 mod RepresentsSteps
 mod RowLemmas

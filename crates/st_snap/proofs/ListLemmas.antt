@@ -19,7 +19,6 @@ length-adjust f [] i = refl
 length-adjust f (x ∷ xs) zero = refl
 length-adjust f (x ∷ xs) (suc i) = ap suc (length-adjust f xs i)
 
-
 -- what stands at another place, and at the place itself
 pub adjust-other : {X : Type 0} (f : X → X) (xs : List X) (i k : ℕ) → k ≢ i → slice_get (adjust f xs i) k ≡ slice_get xs k
 adjust-other f [] i k ne = refl

@@ -28,7 +28,7 @@ pub free_is_copy : (size : ℕ) (rest : List ℕ) (kept : List Version) (copy : 
 free_is_copy size rest kept copy h =
     let b = sum_by_push (λ c. cond (c == copy) 1 0) rest copy in
     elim (eqb_tells copy copy) [
-        inl e ↦ is_below copy size (one-if (nat_lt copy size) (count_by (λ c. c == copy) rest + count_by (λ v. v.copy == copy) kept) (let k = rw (b, e.0) at h in omega arith))
+      | inl e ↦ is_below copy size (one-if (nat_lt copy size) (count_by (λ c. c == copy) rest + count_by (λ v. v.copy == copy) kept) (let k = rw (b, e.0) at h in omega arith))
       | inr e ↦ absurd (e.1 refl)
     ]
 
@@ -41,7 +41,7 @@ pub free_is_unused : (size : ℕ) (rest : List ℕ) (kept : List Version) (copy 
 free_is_unused size rest kept copy h =
     let b = sum_by_push (λ c. cond (c == copy) 1 0) rest copy in
     elim (eqb_tells copy copy) [
-        inl e ↦ one-less (nat_lt copy size) (count_by (λ c. c == copy) rest) (count_by (λ v. v.copy == copy) kept) (rw (b, e.0) at h)
+      | inl e ↦ one-less (nat_lt copy size) (count_by (λ c. c == copy) rest) (count_by (λ v. v.copy == copy) kept) (rw (b, e.0) at h)
       | inr e ↦ absurd (e.1 refl)
     ]
 
@@ -51,7 +51,7 @@ kept_of-set words copy ws [] h = refl
 kept_of-set words copy ws (v ∷ kept) h =
     let e = sum_by-cons (λ v. cond (v.copy == copy) 1 0) v kept in
     elim (eqb_tells v.copy copy) [
-        inl y ↦ absurd (omega (arith, (rw (e, y.0) at h)))
+      | inl y ↦ absurd (omega (arith, (rw (e, y.0) at h)))
       | inr n ↦ rw (get_or-set_other words copy v.copy ws [] n.1, kept_of-set words copy ws kept (omega (arith, (rw (e, n.0) at h)))) refl
     ]
 

@@ -51,8 +51,10 @@ not-above sizes w t stamp n lane upto r none e = cases (nat_lt stamp n) refl
   where
     at_most : (a b : ℕ) → nat_lt a b ≡ false → b ≤ a
     at_most a b h = grind (arith, nat_tests)
+
     below : (a b : ℕ) → nat_lt a b ≡ true → a < b
     below a b h = grind (arith, nat_tests)
+
     cases : (b : Bool) → nat_lt stamp n ≡ b → n ≤ stamp
     cases false h = at_most stamp n h
     cases true h =
@@ -65,7 +67,7 @@ old-target : (sizes : Sizes) (w : World) (t : TableLists) (obj lane n : ℕ) (f 
 old-target sizes w t obj lane n f l pool r old e g stood a size stays =
     let v = r.forwards.versions obj lane n f l e g stood a in
     elim (eqb_tells f.epoch n) [
-        inl y ↦ (y.1, target-kept w.lost (lost_at_change sizes w obj) t.pool pool obj n (l.past obj) f.target (lost-other sizes w obj obj n (inr old)) size (λ kept low high c. stays kept c) (v.forwarded y.1).1)
+      | inl y ↦ (y.1, target-kept w.lost (lost_at_change sizes w obj) t.pool pool obj n (l.past obj) f.target (lost-other sizes w obj obj n (inr old)) size (λ kept low high c. stays kept c) (v.forwarded y.1).1)
       | inr ne ↦ absurd (omega (arith, v.live ne.1, old))
     ]
 
@@ -88,8 +90,8 @@ ready-unneeded shape sizes w t obj header s r found none =
       stays = λ kept c. c;
       epochs = λ lane f a. r.forwards.epochs obj lane f a;
       sent_all = λ lane n f l e g stood a.
-        let low = not-above sizes w t header.stamp n lane upto r none e in
-        old-target sizes w t obj lane n f l t.pool r (omega (arith, low, stamp)) e g stood a refl (λ kept c. c)
+          let low = not-above sizes w t header.stamp n lane upto r none e in
+          old-target sizes w t obj lane n f l t.pool r (omega (arith, low, stamp)) e g stood a refl (λ kept c. c);
     }
 
 -- ---- some check needs the version
@@ -121,14 +123,14 @@ ready-sent shape sizes w t obj header target pool s r found size rows upto stays
       upto = upto;
       stays = stays;
       epochs = λ lane f a. let b = sent-at t obj lane target header f found a in elim b.2.cases [
-          inl old ↦ omega (arith, r.forwards.epochs obj lane b.0 b.1, ap (λ (x : Forward). x.epoch) old.0)
+        | inl old ↦ omega (arith, r.forwards.epochs obj lane b.0 b.1, ap (λ (x : Forward). x.epoch) old.0)
         | inr new ↦ omega (arith, s.active.launched new.0 (r.lanes.are_active lane new.0 new.1), new.3)
       ];
       sent_all = λ lane n f l e g stood a. let b = sent-at t obj lane target header f found a in elim b.2.cases [
-          inl old ↦ subst (λ (x : Forward). (x.epoch ≡ n) × IsTargetOf (lost_at_change sizes w obj) pool obj n (l.past obj) x.target) (sym old.0) (old-target sizes w t obj lane n b.0 l pool r (omega (arith, old.1 n e, stamp)) e g stood b.1 size stays)
+        | inl old ↦ subst (λ (x : Forward). (x.epoch ≡ n) × IsTargetOf (lost_at_change sizes w obj) pool obj n (l.past obj) x.target) (sym old.0) (old-target sizes w t obj lane n b.0 l pool r (omega (arith, old.1 n e, stamp)) e g stood b.1 size stays)
         | inr new ↦ (let one : new.0 ≡ n = the_check new.0 n (sym new.1 ∙ e) in
             (new.3 ∙ one, subst (λ (x : Target). IsTargetOf (lost_at_change sizes w obj) pool obj n (l.past obj) x) (sym new.4) (fresh n l (r.lanes.are_active lane n e) g (omega (arith, new.2, one, stamp)))))
-      ]
+      ];
     }
   where
     the_check : (x y : ℕ) → Some (Some x) ≡ Some (Some y) → x ≡ y
@@ -155,20 +157,22 @@ ready-copied shape sizes w t obj header words copy s r found some has free withi
     let active : list_any (is_within (w.stamp obj) w.epoch) w.active ≡ true = sym (between-active sizes w.active t.lanes (w.stamp obj) w.epoch r.lanes) ∙ (rw (← stamp, ← r.live.epoch) some) in
     let needing = needing-within w obj (λ k a. (s.active.launched k a).1) in
     ready-sent shape sizes w t obj header (Copied copy) (record t.pool { versions = t.pool.versions ++ new ∷ [] }) s r found refl
-      (map-append (row_of w.active) t.pool.versions (new ∷ []) ∙ rw (r.pool.rows, room, needing, row-needed obj (is_within (w.stamp obj) w.epoch) w.active active, stamp, r.live.epoch) refl)
-      (All-push (λ (kept : KeptVersion). kept.version.upto ≤ w.epoch) t.pool.versions new r.pool.upto (omega (arith, r.live.epoch)))
-      (λ kept c. Contains-append_left t.pool.versions (new ∷ []) kept c)
-      (λ n l a g low. (within_pool,
-        record {
-          kept = new;
-          among = Contains-push t.pool.versions new;
-          object = refl;
-          after = omega (arith, low, stamp);
-          upto = omega (arith, s.active.launched n a, r.live.epoch);
-          number = refl;
-          words = subst (HasWords words) (ap (λ (h : Heap). h obj) r.live.heap ∙ sym (s.pasts.same obj n l g low)) has
-        },
-        (rw room (not-lost shape sizes w obj n s low))))
+    (map-append (row_of w.active) t.pool.versions (new ∷ []) ∙ rw (r.pool.rows, room, needing, row-needed obj (is_within (w.stamp obj) w.epoch) w.active active, stamp, r.live.epoch) refl)
+    (All-push (λ (kept : KeptVersion). kept.version.upto ≤ w.epoch) t.pool.versions new r.pool.upto (omega (arith, r.live.epoch)))
+    (λ kept c. Contains-append_left t.pool.versions (new ∷ []) kept c)
+    (λ n l a g low. (
+      within_pool,
+      record {
+        kept = new;
+        among = Contains-push t.pool.versions new;
+        object = refl;
+        after = omega (arith, low, stamp);
+        upto = omega (arith, s.active.launched n a, r.live.epoch);
+        number = refl;
+        words = subst (HasWords words) (ap (λ (h : Heap). h obj) r.live.heap ∙ sym (s.pasts.same obj n l g low)) has;
+      },
+      (rw room (not-lost shape sizes w obj n s low)),
+    ))
 
 -- no copy was free
 ready-gone : (shape : ShapeLists) (sizes : Sizes) (w : World) (t : TableLists) (obj : ℕ) (header : Header) → IsSound shape sizes w → Represents sizes w t → slice_get t.headers obj ≡ Some header → t.pool.size ≤ length t.pool.versions → IsReady sizes w t obj (adjust (sent Gone t.lanes) t.headers obj) t.pool
@@ -176,47 +180,48 @@ ready-gone shape sizes w t obj header s r found full =
     let long : sizes.copies ≤ length w.kept = omega (arith, full, r.pool.size, length-map t.pool.versions (row_of w.active), ap length r.pool.rows) in
     let none = full-is sizes w long in
     ready-sent shape sizes w t obj header Gone t.pool s r found refl
-      (rw none r.pool.rows)
-      r.pool.upto
-      (λ kept c. c)
-      (λ n l a g low. rw none (is_lost-back w.lost (map (λ k. record { obj = obj; check = k }) (needing_in w obj)) obj n (pairs-is_lost obj (needing_in w obj) n (filter-is_among (λ k. nat_lt (w.stamp obj) k) w.active n a (below-test (w.stamp obj) n low)))))
+    (rw none r.pool.rows)
+    r.pool.upto
+    (λ kept c. c)
+    (λ n l a g low. rw none (is_lost-back w.lost (map (λ k. record { obj = obj; check = k }) (needing_in w obj)) obj n (pairs-is_lost obj (needing_in w obj) n (filter-is_among (λ k. nat_lt (w.stamp obj) k) w.active n a (below-test (w.stamp obj) n low)))))
 
 -- ---- the change
 
 represents-ready : (shape : ShapeLists) (sizes : Sizes) (w : World) (t : TableLists) (obj field value : ℕ) (heap : List (Option Object)) (headers : List Header) (pool : PoolVersions) → IsSound shape sizes w → Represents sizes w t → IsReady sizes w t obj headers pool → heap_of heap ≡ with_word (heap_of t.heap) obj field value → length heap ≡ length t.heap → Represents sizes (changed sizes w obj field value) (record t { heap = heap; headers = adjust (stamped t.epoch) headers obj; pool = pool })
 represents-ready shape sizes w t obj field value heap headers pool s r k e room = record {
-    live = record {
-      heap = e ∙ ap (λ (h : Heap). with_word h obj field value) r.live.heap;
-      room = room ∙ r.live.room;
-      header_room = length-adjust (stamped t.epoch) headers obj ∙ k.room ∙ r.live.header_room;
-      stamps = λ o h f. elim (eqb_tells o obj) [
-          inl y ↦ (let b = adjust-found (stamped t.epoch) headers obj h (ap (slice_get (adjust (stamped t.epoch) headers obj)) (sym y.1) ∙ f) in
-            ap (λ (x : Header). x.stamp) b.2 ∙ r.live.epoch ∙ sym (at-same obj w.epoch w.stamp) ∙ ap (at obj w.epoch w.stamp) (sym y.1))
-        | inr n ↦ r.live.stamps o h (sym (k.others o n.1) ∙ sym (adjust-other (stamped t.epoch) headers obj o n.1) ∙ f) ∙ sym (at-other obj w.epoch w.stamp o n.1)
-      ];
-      made_room = r.live.made_room;
-      made = r.live.made;
-      epoch = r.live.epoch
-    };
-    lanes = r.lanes;
-    pool = record { size = k.size; rows = k.rows; upto = k.upto };
-    forwards = record {
-      epochs = λ o lane f a. let b = forward-stamped t.epoch headers obj o lane f a in elim (eqb_tells o obj) [
-          inl y ↦ k.epochs lane f (moved o lane f y.1 b)
-        | inr n ↦ r.forwards.epochs o lane f (other o lane f n.1 b)
-      ];
-      versions = λ o lane n f l g h stood a. let b = forward-stamped t.epoch headers obj o lane f a in elim (eqb_tells o obj) [
-          inl y ↦ (let sent = k.sent_all lane n f l g h (subst (λ (i : ℕ). IsSome (l.past i)) y.1 stood) (moved o lane f y.1 b) in
-            let active = s.active.launched n (r.lanes.are_active lane n g) in
-            subst (λ (i : ℕ). IsForwardOf (at obj w.epoch w.stamp i) (lost_at_change sizes w obj) pool i n (l.past i) f) (sym y.1) (subst (λ (stamp : ℕ). IsForwardOf stamp (lost_at_change sizes w obj) pool obj n (l.past obj) f) (sym (at-same obj w.epoch w.stamp)) (record { forwarded = λ _. (active.1, sent.1); live = λ ne. absurd (ne sent.0) })))
-        | inr ne ↦ (let v = r.forwards.versions o lane n f l g h stood (other o lane f ne.1 b) in
-            subst (λ (stamp : ℕ). IsForwardOf stamp (lost_at_change sizes w obj) pool o n (l.past o) f) (sym (at-other obj w.epoch w.stamp o ne.1)) (record { forwarded = λ q. let fw = v.forwarded q in (fw.0, target-kept w.lost (lost_at_change sizes w obj) t.pool pool o n (l.past o) f.target (lost-other sizes w obj o n (inl ne.1)) k.same_size (λ kept low high c. k.stays kept c) fw.1); live = v.live }))
-      ]
-    }
-  }
+  live = record {
+    heap = e ∙ ap (λ (h : Heap). with_word h obj field value) r.live.heap;
+    room = room ∙ r.live.room;
+    header_room = length-adjust (stamped t.epoch) headers obj ∙ k.room ∙ r.live.header_room;
+    stamps = λ o h f. elim (eqb_tells o obj) [
+      | inl y ↦ (let b = adjust-found (stamped t.epoch) headers obj h (ap (slice_get (adjust (stamped t.epoch) headers obj)) (sym y.1) ∙ f) in
+          ap (λ (x : Header). x.stamp) b.2 ∙ r.live.epoch ∙ sym (at-same obj w.epoch w.stamp) ∙ ap (at obj w.epoch w.stamp) (sym y.1))
+      | inr n ↦ r.live.stamps o h (sym (k.others o n.1) ∙ sym (adjust-other (stamped t.epoch) headers obj o n.1) ∙ f) ∙ sym (at-other obj w.epoch w.stamp o n.1)
+    ];
+    made_room = r.live.made_room;
+    made = r.live.made;
+    epoch = r.live.epoch;
+  };
+  lanes = r.lanes;
+  pool = record { size = k.size; rows = k.rows; upto = k.upto };
+  forwards = record {
+    epochs = λ o lane f a. let b = forward-stamped t.epoch headers obj o lane f a in elim (eqb_tells o obj) [
+      | inl y ↦ k.epochs lane f (moved o lane f y.1 b)
+      | inr n ↦ r.forwards.epochs o lane f (other o lane f n.1 b)
+    ];
+    versions = λ o lane n f l g h stood a. let b = forward-stamped t.epoch headers obj o lane f a in elim (eqb_tells o obj) [
+      | inl y ↦ (let sent = k.sent_all lane n f l g h (subst (λ (i : ℕ). IsSome (l.past i)) y.1 stood) (moved o lane f y.1 b) in
+          let active = s.active.launched n (r.lanes.are_active lane n g) in
+          subst (λ (i : ℕ). IsForwardOf (at obj w.epoch w.stamp i) (lost_at_change sizes w obj) pool i n (l.past i) f) (sym y.1) (subst (λ (stamp : ℕ). IsForwardOf stamp (lost_at_change sizes w obj) pool obj n (l.past obj) f) (sym (at-same obj w.epoch w.stamp)) (record { forwarded = λ _. (active.1, sent.1); live = λ ne. absurd (ne sent.0) })))
+      | inr ne ↦ (let v = r.forwards.versions o lane n f l g h stood (other o lane f ne.1 b) in
+          subst (λ (stamp : ℕ). IsForwardOf stamp (lost_at_change sizes w obj) pool o n (l.past o) f) (sym (at-other obj w.epoch w.stamp o ne.1)) (record { forwarded = λ q. let fw = v.forwarded q in (fw.0, target-kept w.lost (lost_at_change sizes w obj) t.pool pool o n (l.past o) f.target (lost-other sizes w obj o n (inl ne.1)) k.same_size (λ kept low high c. k.stays kept c) fw.1); live = v.live }))
+    ];
+  };
+}
   where
     moved : (o lane : ℕ) (f : Forward) → o ≡ obj → IsForwardAt headers o lane f → IsForwardAt headers obj lane f
     moved o lane f y b = subst (λ (i : ℕ). IsForwardAt headers i lane f) y b
+
     other : (o lane : ℕ) (f : Forward) → o ≢ obj → IsForwardAt headers o lane f → IsForwardAt t.headers o lane f
     other o lane f ne b = record { header = b.header; found = sym (k.others o ne) ∙ b.found; forward = b.forward }
 
@@ -234,7 +239,7 @@ ready-for shape sizes w t b obj header s r found k Gone e h =
 
 ready : (shape : ShapeLists) (sizes : Sizes) (w : World) (t b : TableLists) (obj : ℕ) → IsSound shape sizes w → Represents sizes w t → KeepsVersion t b obj → (b ≡ record t { headers = b.headers; pool = b.pool }) × IsReady sizes w t obj b.headers b.pool
 ready shape sizes w t b obj s r k = elim k.cases [
-    inl y ↦ (frame t b (record t { pool = b.pool; headers = adjust (sent y.target t.lanes) t.headers obj }) y.rest refl, ready-for shape sizes w t b obj k.header s r k.found y y.target refl y.kept)
+  | inl y ↦ (frame t b (record t { pool = b.pool; headers = adjust (sent y.target t.lanes) t.headers obj }) y.rest refl, ready-for shape sizes w t b obj k.header s r k.found y y.target refl y.kept)
   | inr n ↦ (frame t b t n.1 refl, subst (λ (x : TableLists). IsReady sizes w t obj x.headers x.pool) (sym n.1) (ready-unneeded shape sizes w t obj k.header s r k.found n.0))
 ]
 

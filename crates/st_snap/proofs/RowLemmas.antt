@@ -41,6 +41,7 @@ rows-retire n active lanes same (v ∷ vs) = cases (list_any (is_within v.versio
   where
     one : without n (filter (is_within v.version.after v.version.upto) active) ≡ filter (is_within v.version.after v.version.upto) (without n active)
     one = filter-swap (λ k. not (k == n)) (is_within v.version.after v.version.upto) active
+
     cases : (b : Bool) → list_any (is_within v.version.after v.version.upto) (without n active) ≡ b → map (row_of (without n active)) (filter (is_read lanes) vs) ≡ released n (map (row_of active) vs) → map (row_of (without n active)) (cond (is_read lanes v) (v ∷ filter (is_read lanes) vs) (filter (is_read lanes) vs)) ≡ row_if_needed v.version.obj (without n (filter (is_within v.version.after v.version.upto) active)) ++ released n (map (row_of active) vs)
     cases true e r = rw (same v.version.after v.version.upto, e, one, row-needed v.version.obj (is_within v.version.after v.version.upto) (without n active) e, r) refl
     cases false e r = rw (same v.version.after v.version.upto, e, one, filter-none (is_within v.version.after v.version.upto) (without n active) e, r) refl

@@ -11,6 +11,6 @@ kept_same_epoch before after obj k = elim k.cases [ inl y ↦ ap (λ (t : TableL
 
 pub kept_header_room : (before after : TableLists) (obj : ℕ) → KeepsVersion before after obj → length after.headers ≡ length before.headers
 kept_header_room before after obj k = elim k.cases [
-    inl y ↦ ap (λ (t : TableLists). length t.headers) y.rest ∙ length-adjust (sent y.target before.lanes) before.headers obj
+  | inl y ↦ ap (λ (t : TableLists). length t.headers) y.rest ∙ length-adjust (sent y.target before.lanes) before.headers obj
   | inr n ↦ ap (λ (t : TableLists). length t.headers) n.1
-  ]
+]

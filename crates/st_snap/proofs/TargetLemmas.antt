@@ -32,6 +32,7 @@ lost-other sizes w obj o n other = cases (is_full sizes w)
         let p = is_lost-pairs obj (needing_in w obj) o n h in
         let above = is_below (w.stamp obj) n (is_among-filter (λ k. nat_lt (w.stamp obj) k) w.active n p.1).1 in
         elim other [ inl ne ↦ ne (sym p.0) | inr le ↦ omega (arith, above, le) ]
+
     cases : (b : Bool) → is_lost (cond b (w.lost ++ map (λ k. record { obj = obj; check = k }) (needing_in w obj)) w.lost) o n ≡ is_lost w.lost o n
     cases false = refl
     cases true = bool_same (is_lost (w.lost ++ map (λ k. record { obj = obj; check = k }) (needing_in w obj)) o n) (is_lost w.lost o n)
@@ -41,7 +42,7 @@ lost-other sizes w obj o n other = cases (is_full sizes w)
 -- a stamp changes no forwarding word
 pub forward-stamped : (epoch : ℕ) (headers : List Header) (obj o lane : ℕ) (f : Forward) → IsForwardAt (adjust (stamped epoch) headers obj) o lane f → IsForwardAt headers o lane f
 forward-stamped epoch headers obj o lane f a = elim (eqb_tells o obj) [
-    inl s ↦ (let b = adjust-found (stamped epoch) headers obj a.header (ap (slice_get (adjust (stamped epoch) headers obj)) (sym s.1) ∙ a.found) in
+  | inl s ↦ (let b = adjust-found (stamped epoch) headers obj a.header (ap (slice_get (adjust (stamped epoch) headers obj)) (sym s.1) ∙ a.found) in
       record { header = b.0; found = ap (slice_get headers) s.1 ∙ b.1; forward = ap (λ (h : Header). slice_get h.forward lane) (sym b.2) ∙ a.forward })
   | inr s ↦ record { header = a.header; found = sym (adjust-other (stamped epoch) headers obj o s.1) ∙ a.found; forward = a.forward }
 ]

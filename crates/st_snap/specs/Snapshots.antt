@@ -4,8 +4,10 @@ use Rattle.st_events.specs.declared.limits.Sizes.{Sizes}
 use Rattle.st_events.specs.Shape.{ShapeLists, IsWithinLimits}
 use Rattle.st_events.specs.Sizes.{AreWithinLimits}
 use Rattle.st_events.specs.Heap.{Heap, word_at}
-use Rattle.st_events.specs.World.{World, Launched, world_after, is_lost}
-use Rattle.st_events.specs.Legal.{IsLegal}
+use Rattle.st_events.specs.declared.events.Args.{Args}
+use Rattle.st_events.specs.World.{World, Launched, Row, world_after, is_lost}
+use Rattle.st_events.specs.History.{heap_after, active_checks, kept_rows, lost_pairs, launch_of}
+use Rattle.st_events.specs.Legal.{IsLegal, fits_cell, args_fit}
 use Rattle.st_snap.specs.declared.lanes.Lane.{Lane}
 use Rattle.st_snap.specs.Lanes.{lanes_after}
 
@@ -18,6 +20,26 @@ pub record Snapshots : Type 0 where
 -- what the journal says
 abbrev pub world_of : Snapshots → World
 world_of s = world_after s.shape s.sizes s.journal
+
+-- the live heap
+abbrev pub heap_now : Snapshots → Heap
+heap_now s = heap_after s.shape s.sizes s.journal
+
+-- the active checks
+abbrev pub active_now : Snapshots → List ℕ
+active_now s = active_checks s.shape s.sizes s.journal
+
+-- the copies kept
+abbrev pub rows_now : Snapshots → List Row
+rows_now s = kept_rows s.shape s.sizes s.journal
+
+-- the check at each lane
+abbrev pub lanes_now : Snapshots → List (Option ℕ)
+lanes_now s = lanes_after s.sizes.lanes s.journal
+
+-- a snapshot heap before the first event
+abbrev pub new_heap : ShapeLists → Sizes → Snapshots
+new_heap shape sizes = record { shape = shape; sizes = sizes; journal = [] }
 
 -- the journal is legal
 abbrev pub IsLegalHeap : Snapshots → Type 0
@@ -37,7 +59,15 @@ HasSpare s = length s.journal < event_room s.sizes
 
 -- the lane is that of an active check of this heap
 abbrev pub IsLaneOf : Snapshots → Lane → Type 0
-IsLaneOf s lane = slice_get (lanes_after s.sizes.lanes s.journal) lane.index ≡ Some (Some lane.number)
+IsLaneOf s lane = slice_get (lanes_now s) lane.index ≡ Some (Some lane.number)
+
+-- whether a word has the kind of a cell
+abbrev pub has_kind_of : Snapshots → ℕ → ℕ → ℕ → Bool
+has_kind_of s obj field word = fits_cell s.shape (heap_now s) obj field word
+
+-- whether the arguments are legal for a check statement
+abbrev pub are_args_of : Snapshots → ℕ → Args → Bool
+are_args_of s site args = args_fit (heap_now s) (slice_get s.shape.checks site) args
 
 -- the word of a cell in the heap at a launch
 abbrev pub word_then : Option Launched → ℕ → ℕ → Option ℕ
@@ -46,8 +76,8 @@ word_then (Some launch) obj field = word_at launch.past obj field
 
 -- the word of a cell in the heap as it stood at the launch of a check
 abbrev pub word_at_launch : Snapshots → ℕ → ℕ → ℕ → Option ℕ
-word_at_launch s number obj field = word_then ((world_of s).launched number) obj field
+word_at_launch s number obj field = word_then (launch_of s.shape s.sizes s.journal number) obj field
 
 -- whether the version of the object is lost for the check
 abbrev pub is_lost_for : Snapshots → ℕ → ℕ → Bool
-is_lost_for s obj number = is_lost (world_of s).lost obj number
+is_lost_for s obj number = is_lost (lost_pairs s.shape s.sizes s.journal) obj number

@@ -1,5 +1,5 @@
 //! What a snapshot heap keeps beside its journal: the live heap, an object's header, the lanes and the pool of copies.
-ghost use Rattle.std.specs.Prelude.{◌≡◌, ◌≢◌, ℕ, ◌+◌, ◌-◌, ◌*◌, ◌^◌, ◌<◌, ◌≤◌, length, slice_index, Some, IfOk, IsSome};
+ghost use Rattle.std.specs.Prelude.{◌≡◌, ◌≢◌, ℕ, ◌+◌, ◌-◌, ◌*◌, ◌^◌, ◌<◌, ◌≤◌, length, slice_get, slice_index, Some, IfOk, IsSome};
 ghost use Rattle.st_events.specs.Heap.{heap_of, word_at};
 ghost use Rattle.st_events.specs.Shape.{IsWithinLimits};
 ghost use Rattle.st_events.specs.Sizes.{AreWithinLimits};
@@ -69,6 +69,22 @@ impl Table {
         self.heap.put_new(shape, obj, class);
         self.headers[obj as usize].stamp = self.epoch;
         obj
+    }
+
+    /// How many objects a mutator has made.
+    pub fn made_by(&self, m: u8) -> u32
+        requires { m < length self.now.made }
+        ensures { slice_get self.now.made m ≡ Some result }
+    {
+        self.made[m as usize]
+    }
+
+    /// The word of the live heap.
+    pub fn load(&self, obj: u32, field: u8) -> u64
+        requires { IsSome (word_at (heap_of self.now.heap) obj field) }
+        ensures { word_at (heap_of self.now.heap) obj field ≡ Some result }
+    {
+        self.heap.get(obj, field).unwrap()
     }
 
     /// Sets a word, once the old version is kept for the checks that need it.

@@ -5,3 +5,6 @@ use Rattle.st_snap.proofs.ForwardLemmas.{forwarded-at}
 use Rattle.st_snap.proofs.TargetLemmas.{target-kept}
 use Rattle.st_snap.proofs.RepresentsSteps.{represents-new}
 use Rattle.st_snap.proofs.RepresentsChange.{IsReady}
+use Rattle.st_snap.proofs.ReadLemmas.{read-answer}
+use Rattle.st_snap.proofs.LegalEvents.{legal-load}
+use Rattle.st_snap.proofs.HoldsLemmas.{holds-next}

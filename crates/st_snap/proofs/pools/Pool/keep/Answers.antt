@@ -25,7 +25,7 @@ invariant_of-self-2 c =
       free_fits = omega (arith, same, c.in-Some.ensures.capacity);
       kept_fits = omega (arith, same, c.push_reserved.ensures.capacity);
       all = rw (same, pushed) (omega (arith, length-append c.self.inside.kept.items (version ∷ []), ap length taken, length-append c.pop.new.self.items (c.in-Some.copy ∷ [])));
-      once = λ k. rw (same, pushed) (uses-keep c.self.inside.free.items c.pop.new.self.items c.self.inside.kept.items version k taken ∙ c.self.invariant.once k)
+      once = λ k. rw (same, pushed) (uses-keep c.self.inside.free.items c.pop.new.self.items c.self.inside.kept.items version k taken ∙ c.self.invariant.once k);
     }
 
 pub returns : goal.returns
@@ -38,8 +38,8 @@ returns c =
     let none = free_is_unused n c.pop.new.self.items c.self.inside.kept.items c.in-Some.copy (rw taken at once) in
     let kept = versions_of-keep c.self.inside.words.items c.self.inside.kept.items version c.args.words lt none in
     let all = c.self.invariant.all in
-    rw (← c.self.view_is)
-        ( omega (arith, length-map c.self.inside.kept.items (kept_of c.self.inside.words.items), all, ap length taken, length-append c.pop.new.self.items (c.in-Some.copy ∷ []))
-        , lt
-        , rw (length-set c.self.inside.words.items c.in-Some.copy c.args.words, c.push_reserved.ensures.items, kept) refl
-        )
+    rw (← c.self.view_is) (
+      omega (arith, length-map c.self.inside.kept.items (kept_of c.self.inside.words.items), all, ap length taken, length-append c.pop.new.self.items (c.in-Some.copy ∷ [])),
+      lt,
+      rw (length-set c.self.inside.words.items c.in-Some.copy c.args.words, c.push_reserved.ensures.items, kept) refl,
+    )

@@ -16,7 +16,7 @@ invariant_of-self c =
       free_fits = omega (arith, c.free_unread.ensures.room);
       kept_fits = omega (arith, c.drop_unread.ensures.room);
       all = rw (c.free_unread.ensures.items, c.drop_unread.ensures.items, c.as_slice.ensures.value) (length-release read c.self.inside.free.items c.self.inside.kept.items ∙ c.self.invariant.all);
-      once = λ k. rw (c.free_unread.ensures.items, c.drop_unread.ensures.items, c.as_slice.ensures.value) (uses-release read c.self.inside.free.items c.self.inside.kept.items k ∙ c.self.invariant.once k)
+      once = λ k. rw (c.free_unread.ensures.items, c.drop_unread.ensures.items, c.as_slice.ensures.value) (uses-release read c.self.inside.free.items c.self.inside.kept.items k ∙ c.self.invariant.once k);
     }
 
 pub returns-clause-versions : goal.returns-clause-versions

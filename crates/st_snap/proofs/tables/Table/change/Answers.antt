@@ -25,5 +25,5 @@ returns c =
       version = kept;
       heap = c.set.ensures.set ∙ ap (λ hs. with_word (heap_of hs) c.args.obj c.args.field c.args.value) heap;
       room = c.set.ensures.room ∙ ap length heap;
-      rest = rw (← c.self.view_is) (rw (put, epoch) refl)
+      rest = rw (← c.self.view_is) (rw (put, epoch) refl);
     }

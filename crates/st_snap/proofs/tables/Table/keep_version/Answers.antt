@@ -20,8 +20,8 @@ returns-then-some_between c =
         words = c.words_of-words.result;
         has = c.words_of-words.ensures;
         kept = c.keep-target.ensures;
-        rest = rw (changed, put) refl
-      })
+        rest = rw (changed, put) refl;
+      });
     }
 
 pub returns-else-some_between : goal.returns-else-some_between
@@ -31,5 +31,5 @@ returns-else-some_between c =
     rw (← c.self.view_is) record {
       header = c.index.result.now;
       found = found-at c.self.inside.headers.items c.args.obj c.index.result.now within c.index.ensures;
-      cases = inr (rw (← c.deref.ensures.value) (sym c.some_between.ensures ∙ c.if-some_between.false), refl)
+      cases = inr (rw (← c.deref.ensures.value) (sym c.some_between.ensures ∙ c.if-some_between.false), refl);
     }

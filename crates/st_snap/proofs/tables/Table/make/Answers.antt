@@ -22,5 +22,5 @@ returns c =
       made = search rules;
       epoch = refl;
       lanes = search rules;
-      pool = c.in_ok-make-2.ensures
+      pool = c.in_ok-make-2.ensures;
     }

@@ -21,5 +21,5 @@ returns c =
       number = refl;
       heap = c.put_new.ensures.put;
       room = c.put_new.ensures.room;
-      rest = rw put refl
+      rest = rw put refl;
     }

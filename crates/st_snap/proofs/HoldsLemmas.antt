@@ -1,0 +1,62 @@
+-- The invariant of a snapshot heap, over one more event
+use Rattle.std.proofs.Common.{◌≡◌, ℕ, ◌+◌, ◌-◌, ◌*◌, ◌^◌, ◌<◌, ◌≤◌, List, [], ◌∷◌, ◌++◌, length, Option, refl, sym, ◌∙◌, ap, subst, arith, length-append}
+use Rattle.std.proofs.Math.Nat.{mul-le-mul}
+use Rattle.st_events.specs.declared.events.Event.{Event}
+use Rattle.st_events.specs.declared.limits.Sizes.{Sizes}
+use Rattle.st_events.specs.Journal.{Written}
+use Rattle.st_events.specs.Shape.{ShapeLists, IsWithinLimits}
+use Rattle.st_events.specs.Sizes.{AreWithinLimits}
+use Rattle.st_events.specs.World.{World, next, world_after}
+use Rattle.st_events.specs.Legal.{IsLegal, IsLegalNext}
+use Rattle.st_events.specs.Sound.{IsSound}
+use Rattle.st_events.proofs.WorldLemmas.{world_after-snoc}
+use Rattle.st_events.proofs.LegalLemmas.{IsLegal-empty, IsLegal-snoc}
+use Rattle.st_events.proofs.SoundLemmas.{sound_after}
+use Rattle.st_snap.specs.Lanes.{lanes_from, lanes_after, next_lanes}
+use Rattle.st_snap.specs.Snapshots.{event_room}
+use Rattle.st_snap.specs.Table.{TableLists, IsFirst}
+use Rattle.st_snap.specs.Represents.{Represents}
+use Rattle.st_snap.specs.Holds.{Holds}
+use Rattle.st_snap.proofs.RepresentsSteps.{represents-first}
+
+lanes_from-append : (lanes : List (Option ℕ)) (es fs : List Event) → lanes_from lanes (es ++ fs) ≡ lanes_from (lanes_from lanes es) fs
+lanes_from-append lanes [] fs = refl
+lanes_from-append lanes (e ∷ es) fs = lanes_from-append (next_lanes lanes e) es fs
+
+-- the lanes after one more event
+pub lanes_after-snoc : (count : ℕ) (es : List Event) (e : Event) → lanes_after count (es ++ e ∷ []) ≡ next_lanes (lanes_after count es) e
+lanes_after-snoc count es e = lanes_from-append _ es (e ∷ [])
+
+-- before the first event
+pub holds-first : (shape : ShapeLists) (sizes : Sizes) (t : TableLists) (journal : Written) → IsWithinLimits shape → AreWithinLimits sizes → IsFirst shape sizes t → journal.events ≡ [] → event_room sizes ≤ journal.spare → Holds shape sizes t journal
+holds-first shape sizes t journal fits within first empty spare = record {
+    shape_fits = fits;
+    sizes_fit = within;
+    legal = subst (λ (es : List Event). IsLegal shape sizes es) (sym empty) (IsLegal-empty shape sizes);
+    within = rw empty (omega arith);
+    reserved = omega (arith, spare);
+    lanes = first.lanes ∙ ap (λ (es : List Event). lanes_after sizes.lanes es) (sym empty);
+    tables = subst (λ (es : List Event). Represents sizes (world_after shape sizes es) t) (sym empty) (represents-first shape sizes t first)
+  }
+
+-- what holds of the world
+pub sound-now : (shape : ShapeLists) (sizes : Sizes) (t : TableLists) (journal : Written) → Holds shape sizes t journal → IsSound shape sizes (world_after shape sizes journal.events)
+sound-now shape sizes t journal h = sound_after shape sizes h.shape_fits journal.events h.legal
+
+-- one more event
+pub holds-next : (shape : ShapeLists) (sizes : Sizes) (t t' : TableLists) (journal journal' : Written) (e : Event) → Holds shape sizes t journal → length journal.events < event_room sizes → journal'.events ≡ journal.events ++ e ∷ [] → journal'.spare ≡ journal.spare - 1 → IsLegalNext shape sizes (world_after shape sizes journal.events) e → t'.lanes ≡ next_lanes t.lanes e → Represents sizes (next shape sizes (world_after shape sizes journal.events) e) t' → Holds shape sizes t' journal'
+holds-next shape sizes t t' journal journal' e h room more spare legal lanes tables =
+    let longer : length journal'.events ≡ length journal.events + 1 = ap length more ∙ length-append journal.events (e ∷ []) in
+    record {
+      shape_fits = h.shape_fits;
+      sizes_fit = h.sizes_fit;
+      legal = subst (λ (es : List Event). IsLegal shape sizes es) (sym more) (IsLegal-snoc shape sizes journal.events e h.legal legal);
+      within = omega (arith, longer, room);
+      reserved = omega (arith, longer, room, spare, h.reserved);
+      lanes = lanes ∙ ap (λ (ls : List (Option ℕ)). next_lanes ls e) h.lanes ∙ sym (lanes_after-snoc sizes.lanes journal.events e) ∙ ap (λ (es : List Event). lanes_after sizes.lanes es) (sym more);
+      tables = subst (λ (es : List Event). Represents sizes (world_after shape sizes es) t') (sym more) (subst (λ (w : World). Represents sizes w t') (sym (world_after-snoc shape sizes journal.events e)) tables)
+    }
+
+-- a journal has fewer events than a number of 32 bits can count
+pub room-small : (sizes : Sizes) → AreWithinLimits sizes → event_room sizes ≤ 8388608
+room-small sizes w = mul-le-mul w.mutators w.events.1
