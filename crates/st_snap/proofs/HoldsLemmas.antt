@@ -1,12 +1,15 @@
 -- The invariant of a snapshot heap, over one more event
-use Rattle.std.proofs.Common.{◌≡◌, ℕ, ◌+◌, ◌-◌, ◌*◌, ◌^◌, ◌<◌, ◌≤◌, List, [], ◌∷◌, ◌++◌, length, Option, refl, sym, ◌∙◌, ap, subst, arith, length-append}
+use Rattle.std.proofs.Common.{◌≡◌, ℕ, ◌+◌, ◌-◌, ◌*◌, ◌^◌, ◌<◌, ◌≤◌, List, [], ◌∷◌, ◌++◌, length, Option, true, false, IsSome, refl, sym, ◌∙◌, ap, subst, arith, length-append}
 use Rattle.std.proofs.Math.Nat.{mul-le-mul}
 use Rattle.st_events.specs.declared.events.Event.{Event}
 use Rattle.st_events.specs.declared.limits.Sizes.{Sizes}
 use Rattle.st_events.specs.Journal.{Written}
 use Rattle.st_events.specs.Shape.{ShapeLists, IsWithinLimits}
 use Rattle.st_events.specs.Sizes.{AreWithinLimits}
-use Rattle.st_events.specs.World.{World, next, world_after}
+use Rattle.st_events.specs.declared.events.Event.TheVariants.{New, Load, Store, Cas, Launch, Retire}
+use Rattle.st_events.specs.declared.shapes.TheConstants.{MOST_FIELDS}
+use Rattle.st_events.specs.Heap.{Heap, heap_of, word_at}
+use Rattle.st_events.specs.World.{World, next, world_from, world_after, first_world}
 use Rattle.st_events.specs.Legal.{IsLegal, IsLegalNext}
 use Rattle.st_events.specs.Sound.{IsSound}
 use Rattle.st_events.proofs.WorldLemmas.{world_after-snoc}
@@ -17,6 +20,7 @@ use Rattle.st_snap.specs.Snapshots.{event_room}
 use Rattle.st_snap.specs.Table.{TableLists, IsFirst}
 use Rattle.st_snap.specs.Represents.{Represents}
 use Rattle.st_snap.specs.Holds.{Holds}
+use Rattle.st_snap.proofs.ReadLemmas.{IsSmall, small-typed, small-field, has-place, object-of-cell}
 use Rattle.st_snap.proofs.RepresentsSteps.{represents-first}
 
 lanes_from-append : (lanes : List (Option ℕ)) (es fs : List Event) → lanes_from lanes (es ++ fs) ≡ lanes_from (lanes_from lanes es) fs
@@ -60,3 +64,27 @@ holds-next shape sizes t t' journal journal' e h room more spare legal lanes tab
 -- a journal has fewer events than a number of 32 bits can count
 pub room-small : (sizes : Sizes) → AreWithinLimits sizes → event_room sizes ≤ 8388608
 room-small sizes w = mul-le-mul w.mutators w.events.1
+
+-- no more checks were launched than there are events
+epoch-from : (shape : ShapeLists) (sizes : Sizes) (w : World) (es : List Event) → (world_from shape sizes w es).epoch ≤ w.epoch + length es
+epoch-from shape sizes w [] = omega arith
+epoch-from shape sizes w (e ∷ es) = omega (arith, epoch-from shape sizes (next shape sizes w e) es, epoch-next shape sizes w e)
+  where
+    epoch-next : (shape : ShapeLists) (sizes : Sizes) (w : World) (e : Event) → (next shape sizes w e).epoch ≤ w.epoch + 1
+    epoch-next shape sizes w (New m obj class) = omega arith
+    epoch-next shape sizes w (Load m obj field value) = omega arith
+    epoch-next shape sizes w (Store m obj field value) = omega arith
+    epoch-next shape sizes w (Cas m obj field expect value true) = omega arith
+    epoch-next shape sizes w (Cas m obj field expect value false) = omega arith
+    epoch-next shape sizes w (Launch m number site args) = omega arith
+    epoch-next shape sizes w (Retire m number) = omega arith
+
+pub epoch-small : (shape : ShapeLists) (sizes : Sizes) (t : TableLists) (journal : Written) → Holds shape sizes t journal → t.epoch < 2 ^ 32 - 1
+epoch-small shape sizes t journal h = omega (arith, h.tables.live.epoch, epoch-from shape sizes (first_world shape) journal.events, h.within, room-small sizes h.sizes_fit)
+
+-- what a change of a cell asks of the tables
+pub cell-has-header : (shape : ShapeLists) (sizes : Sizes) (t : TableLists) (journal : Written) (obj field : ℕ) → Holds shape sizes t journal → IsSome (word_at (heap_of t.heap) obj field) → obj < length t.headers
+cell-has-header shape sizes t journal obj field h some = omega (arith, has-place t.heap obj (object-of-cell (heap_of t.heap) obj field some), h.tables.live.room, h.tables.live.header_room)
+
+pub cell-is-small : (shape : ShapeLists) (sizes : Sizes) (t : TableLists) (journal : Written) (obj field : ℕ) → Holds shape sizes t journal → IsSome (word_at (heap_of t.heap) obj field) → field < MOST_FIELDS
+cell-is-small shape sizes t journal obj field h some = small-field (heap_of t.heap) obj field (subst (λ (heap : Heap). IsSmall heap) (sym h.tables.live.heap) (small-typed shape (world_after shape sizes journal.events).heap h.shape_fits (sound-now shape sizes t journal h).typed)) some

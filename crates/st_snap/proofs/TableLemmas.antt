@@ -1,6 +1,7 @@
 -- What keeping a version leaves as it was
 use Rattle.std.proofs.Common.{◌≡◌, ℕ, length, refl, ap, ◌∙◌, inl, inr}
-use Rattle.st_snap.specs.Table.{TableLists, KeepsVersion, sent}
+use Rattle.std.proofs.Common.{Option}
+use Rattle.st_snap.specs.Table.{TableLists, KeepsVersion, Changes, sent}
 use Rattle.st_snap.proofs.ListLemmas.{length-adjust}
 
 pub kept_same_heap : (before after : TableLists) (obj : ℕ) → KeepsVersion before after obj → after.heap ≡ before.heap
@@ -14,3 +15,10 @@ kept_header_room before after obj k = elim k.cases [
   | inl y ↦ ap (λ (t : TableLists). length t.headers) y.rest ∙ length-adjust (sent y.target before.lanes) before.headers obj
   | inr n ↦ ap (λ (t : TableLists). length t.headers) n.1
 ]
+
+kept_same_lanes : (before after : TableLists) (obj : ℕ) → KeepsVersion before after obj → after.lanes ≡ before.lanes
+kept_same_lanes before after obj k = elim k.cases [ inl y ↦ ap (λ (t : TableLists). t.lanes) y.rest | inr n ↦ ap (λ (t : TableLists). t.lanes) n.1 ]
+
+-- a change leaves the lanes
+pub changed_same_lanes : (before after : TableLists) (obj field value : ℕ) → Changes before after obj field value → after.lanes ≡ before.lanes
+changed_same_lanes before after obj field value c = ap (λ (t : TableLists). t.lanes) c.rest ∙ kept_same_lanes before c.between obj c.version

@@ -89,6 +89,11 @@ pub record Changes (before after : TableLists) (obj field value : ℕ) : Type 0 
   pub room : length after.heap ≡ length before.heap
   pub rest : after ≡ record between { heap = after.heap; headers = adjust (stamped before.epoch) between.headers obj }
 
+-- one word is set, or nothing
+abbrev pub ChangesWhere : Bool → TableLists → TableLists → ℕ → ℕ → ℕ → Type 0
+ChangesWhere true before after obj field value = Changes before after obj field value
+ChangesWhere false before after obj field value = after ≡ before
+
 -- a check is launched where a lane is idle
 abbrev pub Launches : TableLists → TableLists → Option Lane → Type 0
 Launches before after None = (position is_idle before.lanes ≡ None) × (after ≡ before)

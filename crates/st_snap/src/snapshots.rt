@@ -129,10 +129,7 @@ impl SnapHeap {
         ensures legal { IsLegalHeap self.new }
         ensures lanes { lanes_now self.new ≡ lanes_now self.old }
     {
-        let done = self.table.load(obj, field) == expect;
-        if done {
-            self.table.change(obj, field, value);
-        }
+        let done = self.table.change_where(obj, field, expect, value);
         append(
             &mut self.journal,
             Event::Cas {

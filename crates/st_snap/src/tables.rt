@@ -1,6 +1,7 @@
 //! What a snapshot heap keeps beside its journal: the live heap, an object's header, the lanes and the pool of copies.
 ghost use Rattle.std.specs.Prelude.{◌≡◌, ◌≢◌, ℕ, ◌+◌, ◌-◌, ◌*◌, ◌^◌, ◌<◌, ◌≤◌, length, slice_get, slice_index, Some, IfOk, IsSome};
 ghost use Rattle.st_events.specs.Heap.{heap_of, word_at};
+ghost use Rattle.st_events.specs.Legal.{is_word};
 ghost use Rattle.st_events.specs.Shape.{IsWithinLimits};
 ghost use Rattle.st_events.specs.Sizes.{AreWithinLimits};
 
@@ -35,7 +36,7 @@ impl Model for Table {
 }
 
 impl Table {
-    ghost use Rattle.st_snap.specs.Table.{IsFirst, Makes, KeepsVersion, Changes, Launches, retired_at, Reads, AreCopies, HasWords, object_room};
+    ghost use Rattle.st_snap.specs.Table.{IsFirst, Makes, KeepsVersion, Changes, ChangesWhere, Launches, retired_at, Reads, AreCopies, HasWords, object_room};
 
     /// Before the first event.
     pub fn make(alloc: Global, shape: &Shape, sizes: &Sizes) -> Result<Table, NoMemory>
@@ -98,6 +99,22 @@ impl Table {
         self.keep_version(obj);
         self.headers[obj as usize].stamp = self.epoch;
         self.heap.set(obj, field, value);
+    }
+
+    /// Sets a word where it is `expect`, and tells whether it was.
+    pub fn change_where(&mut self, obj: u32, field: u8, expect: u64, value: u64) -> bool
+        requires cell { IsSome (word_at (heap_of self.old.heap) obj field) }
+        requires small { (f : ℕ) → IsSome (word_at (heap_of self.old.heap) obj f) → f < MOST_FIELDS }
+        requires header { obj < length self.old.headers }
+        requires lanes { length self.old.lanes ≤ LANES }
+        ensures done { result ≡ is_word (word_at (heap_of self.old.heap) obj field) expect }
+        ensures changed { ChangesWhere result self.old self.new obj field value }
+    {
+        if self.load(obj, field) != expect {
+            return false;
+        }
+        self.change(obj, field, value);
+        true
     }
 
     /// Keeps the version of the object for each active check that was launched after its stamp, in one copy for all of
