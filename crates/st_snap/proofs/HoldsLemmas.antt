@@ -1,5 +1,5 @@
 -- The invariant of a snapshot heap, over one more event
-use Rattle.std.proofs.Common.{◌≡◌, ℕ, ◌+◌, ◌-◌, ◌*◌, ◌^◌, ◌<◌, ◌≤◌, List, [], ◌∷◌, ◌++◌, length, Option, true, false, IsSome, refl, sym, ◌∙◌, ap, subst, arith, length-append}
+use Rattle.std.proofs.Common.{◌≡◌, ℕ, ◌+◌, ◌-◌, ◌*◌, ◌^◌, ◌<◌, ◌≤◌, List, [], ◌∷◌, ◌++◌, length, slice_get, Option, Some, None, Bool, true, false, IsSome, refl, sym, ◌∙◌, ap, subst, arith, length-append}
 use Rattle.std.proofs.Math.Nat.{mul-le-mul}
 use Rattle.st_events.specs.declared.events.Event.{Event}
 use Rattle.st_events.specs.declared.limits.Sizes.{Sizes}
@@ -9,19 +9,22 @@ use Rattle.st_events.specs.Sizes.{AreWithinLimits}
 use Rattle.st_events.specs.declared.events.Event.TheVariants.{New, Load, Store, Cas, Launch, Retire}
 use Rattle.st_events.specs.declared.shapes.TheConstants.{MOST_FIELDS}
 use Rattle.st_events.specs.Heap.{Heap, heap_of, word_at}
-use Rattle.st_events.specs.World.{World, next, world_from, world_after, first_world}
+use Rattle.st_events.specs.World.{World, Launched, next, world_from, world_after, first_world}
 use Rattle.st_events.specs.Legal.{IsLegal, IsLegalNext}
 use Rattle.st_events.specs.Sound.{IsSound}
 use Rattle.st_events.proofs.WorldLemmas.{world_after-snoc}
 use Rattle.st_events.proofs.LegalLemmas.{IsLegal-empty, IsLegal-snoc}
 use Rattle.st_events.proofs.SoundLemmas.{sound_after}
 use Rattle.st_snap.specs.Lanes.{lanes_from, lanes_after, next_lanes}
-use Rattle.st_snap.specs.Snapshots.{event_room}
-use Rattle.st_snap.specs.Table.{TableLists, IsFirst}
+use Rattle.st_snap.specs.declared.lanes.Lane.{Lane}
+use Rattle.st_snap.specs.Snapshots.{event_room, IsLaneOf, word_then, word_at_launch}
+use Rattle.st_snap.specs.Table.{TableLists, IsFirst, ChangesWhere}
 use Rattle.st_snap.specs.Represents.{Represents}
 use Rattle.st_snap.specs.Holds.{Holds}
 use Rattle.st_snap.proofs.ReadLemmas.{IsSmall, small-typed, small-field, has-place, object-of-cell}
 use Rattle.st_snap.proofs.RepresentsSteps.{represents-first}
+use Rattle.st_snap.proofs.RepresentsChange.{represents-change}
+use Rattle.st_snap.proofs.TableLemmas.{changed_same_lanes}
 
 lanes_from-append : (lanes : List (Option ℕ)) (es fs : List Event) → lanes_from lanes (es ++ fs) ≡ lanes_from (lanes_from lanes es) fs
 lanes_from-append lanes [] fs = refl
@@ -88,3 +91,27 @@ cell-has-header shape sizes t journal obj field h some = omega (arith, has-place
 
 pub cell-is-small : (shape : ShapeLists) (sizes : Sizes) (t : TableLists) (journal : Written) (obj field : ℕ) → Holds shape sizes t journal → IsSome (word_at (heap_of t.heap) obj field) → field < MOST_FIELDS
 cell-is-small shape sizes t journal obj field h some = small-field (heap_of t.heap) obj field (subst (λ (heap : Heap). IsSmall heap) (sym h.tables.live.heap) (small-typed shape (world_after shape sizes journal.events).heap h.shape_fits (sound-now shape sizes t journal h).typed)) some
+
+-- a Cas, done or not
+pub represents-cas : (shape : ShapeLists) (sizes : Sizes) (w : World) (t t' : TableLists) (m obj field expect value : ℕ) (done : Bool) → IsSound shape sizes w → Represents sizes w t → ChangesWhere done t t' obj field value → Represents sizes (next shape sizes w (Cas m obj field expect value done)) t'
+represents-cas shape sizes w t t' m obj field expect value true s r c = represents-change shape sizes w t t' obj field value s r c
+represents-cas shape sizes w t t' m obj field expect value false s r c = subst (λ (x : TableLists). Represents sizes w x) (sym c) r
+
+pub cas-same-lanes : (t t' : TableLists) (obj field value : ℕ) (done : Bool) → ChangesWhere done t t' obj field value → t'.lanes ≡ t.lanes
+cas-same-lanes t t' obj field value true c = changed_same_lanes t t' obj field value c
+cas-same-lanes t t' obj field value false c = ap (λ (x : TableLists). x.lanes) c
+
+-- a lane that is handed in is that of an active check
+pub lane-here : (shape : ShapeLists) (sizes : Sizes) (t : TableLists) (journal : Written) (lane : Lane) → Holds shape sizes t journal → IsLaneOf (record { shape = shape; sizes = sizes; journal = journal.events }) lane → slice_get t.lanes lane.index ≡ Some (Some lane.number)
+lane-here shape sizes t journal lane h is = ap (λ (ls : List (Option ℕ)). slice_get ls lane.index) h.lanes ∙ is
+
+pub here-lane : (shape : ShapeLists) (sizes : Sizes) (t : TableLists) (journal : Written) (lane : Lane) → Holds shape sizes t journal → slice_get t.lanes lane.index ≡ Some (Some lane.number) → IsLaneOf (record { shape = shape; sizes = sizes; journal = journal.events }) lane
+here-lane shape sizes t journal lane h e = ap (λ (ls : List (Option ℕ)). slice_get ls lane.index) (sym h.lanes) ∙ e
+
+-- its launch stands in the world, and so does each object of the heap then
+pub launch-known : (shape : ShapeLists) (sizes : Sizes) (journal : List Event) (n obj field : ℕ) → IsSome (word_at_launch (record { shape = shape; sizes = sizes; journal = journal }) n obj field) → (l : Launched) × ((world_after shape sizes journal).launched n ≡ Some l) × (word_at_launch (record { shape = shape; sizes = sizes; journal = journal }) n obj field ≡ word_at l.past obj field)
+launch-known shape sizes journal n obj field some = cases ((world_after shape sizes journal).launched n) refl some
+  where
+    cases : (o : Option Launched) → (world_after shape sizes journal).launched n ≡ o → IsSome (word_then o obj field) → (l : Launched) × ((world_after shape sizes journal).launched n ≡ Some l) × (word_then ((world_after shape sizes journal).launched n) obj field ≡ word_at l.past obj field)
+    cases None e i = cc
+    cases (Some l) e i = (l, e, ap (λ (k : Option Launched). word_then k obj field) e)

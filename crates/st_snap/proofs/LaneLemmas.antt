@@ -134,3 +134,10 @@ clear-set n (Some k ∷ lanes) (suc i) e only = elim (eqb_tells k n) [
   | inl s ↦ absurd (omega (arith, only 0 (ap (λ (j : ℕ). Some (Some j)) s.1)))
   | inr s ↦ rw s.0 (ap (λ ls. Some k ∷ ls) (clear-set n lanes i e (λ j f. let t = only (suc j) f in omega arith)))
 ]
+
+-- every lane is active exactly where none is idle
+pub all-active : (sizes : Sizes) (active : List ℕ) (lanes : List (Option ℕ)) → AreLanes sizes active lanes → position is_idle lanes ≡ None → length active ≡ sizes.lanes
+all-active sizes active lanes a e = omega (arith, a.idle, none-idle lanes e)
+
+pub one-idle : (sizes : Sizes) (active : List ℕ) (lanes : List (Option ℕ)) (i : ℕ) → AreLanes sizes active lanes → position is_idle lanes ≡ Some i → length active < sizes.lanes
+one-idle sizes active lanes i a e = omega (arith, a.idle, some-idle lanes i (first-idle lanes i e))

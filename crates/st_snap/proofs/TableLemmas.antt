@@ -1,7 +1,8 @@
 -- What keeping a version leaves as it was
 use Rattle.std.proofs.Common.{◌≡◌, ℕ, length, refl, ap, ◌∙◌, inl, inr}
 use Rattle.std.proofs.Common.{Option}
-use Rattle.st_snap.specs.Table.{TableLists, KeepsVersion, Changes, sent}
+use Rattle.st_snap.specs.Table.{TableLists, KeepsVersion, Changes, Makes, sent}
+use Rattle.st_events.specs.Shape.{ShapeLists}
 use Rattle.st_snap.proofs.ListLemmas.{length-adjust}
 
 pub kept_same_heap : (before after : TableLists) (obj : ℕ) → KeepsVersion before after obj → after.heap ≡ before.heap
@@ -22,3 +23,7 @@ kept_same_lanes before after obj k = elim k.cases [ inl y ↦ ap (λ (t : TableL
 -- a change leaves the lanes
 pub changed_same_lanes : (before after : TableLists) (obj field value : ℕ) → Changes before after obj field value → after.lanes ≡ before.lanes
 changed_same_lanes before after obj field value c = ap (λ (t : TableLists). t.lanes) c.rest ∙ kept_same_lanes before c.between obj c.version
+
+-- a new object leaves the lanes
+pub made_same_lanes : (shape : ShapeLists) (objects : ℕ) (before after : TableLists) (m class obj : ℕ) → Makes shape objects before after m class obj → after.lanes ≡ before.lanes
+made_same_lanes shape objects before after m class obj k = ap (λ (t : TableLists). t.lanes) k.rest
