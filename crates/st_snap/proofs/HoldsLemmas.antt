@@ -37,14 +37,14 @@ lanes_after-snoc count es e = lanes_from-append _ es (e ∷ [])
 -- before the first event
 pub holds-first : (shape : ShapeLists) (sizes : Sizes) (t : TableLists) (journal : Written) → IsWithinLimits shape → AreWithinLimits sizes → IsFirst shape sizes t → journal.events ≡ [] → event_room sizes ≤ journal.spare → Holds shape sizes t journal
 holds-first shape sizes t journal fits within first empty spare = record {
-    shape_fits = fits;
-    sizes_fit = within;
-    legal = subst (λ (es : List Event). IsLegal shape sizes es) (sym empty) (IsLegal-empty shape sizes);
-    within = rw empty (omega arith);
-    reserved = omega (arith, spare);
-    lanes = first.lanes ∙ ap (λ (es : List Event). lanes_after sizes.lanes es) (sym empty);
-    tables = subst (λ (es : List Event). Represents sizes (world_after shape sizes es) t) (sym empty) (represents-first shape sizes t first)
-  }
+  shape_fits = fits;
+  sizes_fit = within;
+  legal = subst (λ (es : List Event). IsLegal shape sizes es) (sym empty) (IsLegal-empty shape sizes);
+  within = rw empty (omega arith);
+  reserved = omega (arith, spare);
+  lanes = first.lanes ∙ ap (λ (es : List Event). lanes_after sizes.lanes es) (sym empty);
+  tables = subst (λ (es : List Event). Represents sizes (world_after shape sizes es) t) (sym empty) (represents-first shape sizes t first);
+}
 
 -- what holds of the world
 pub sound-now : (shape : ShapeLists) (sizes : Sizes) (t : TableLists) (journal : Written) → Holds shape sizes t journal → IsSound shape sizes (world_after shape sizes journal.events)
@@ -61,7 +61,7 @@ holds-next shape sizes t t' journal journal' e h room more spare legal lanes tab
       within = omega (arith, longer, room);
       reserved = omega (arith, longer, room, spare, h.reserved);
       lanes = lanes ∙ ap (λ (ls : List (Option ℕ)). next_lanes ls e) h.lanes ∙ sym (lanes_after-snoc sizes.lanes journal.events e) ∙ ap (λ (es : List Event). lanes_after sizes.lanes es) (sym more);
-      tables = subst (λ (es : List Event). Represents sizes (world_after shape sizes es) t') (sym more) (subst (λ (w : World). Represents sizes w t') (sym (world_after-snoc shape sizes journal.events e)) tables)
+      tables = subst (λ (es : List Event). Represents sizes (world_after shape sizes es) t') (sym more) (subst (λ (w : World). Represents sizes w t') (sym (world_after-snoc shape sizes journal.events e)) tables);
     }
 
 -- a journal has fewer events than a number of 32 bits can count

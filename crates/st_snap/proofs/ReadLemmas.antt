@@ -38,6 +38,7 @@ small-field heap obj field small some = cases (heap obj) refl some
     within : (x : Object) (o : Option ℕ) → slice_get x.words field ≡ o → IsSome o → field < length x.words
     within x None e i = cc
     within x (Some word) e i = slice_get_within x.words field word e
+
     cases : (o : Option Object) → heap obj ≡ o → IsSome (word_of o field) → field < MOST_FIELDS
     cases None e i = cc
     cases (Some x) e i = omega (arith, small obj x e, within x (slice_get x.words field) refl i)
@@ -54,7 +55,7 @@ small-next shape sizes w (Store m obj field value) fits s legal n l h = s.pasts 
 small-next shape sizes w (Cas m obj field expect value true) fits s legal n l h = s.pasts n l h
 small-next shape sizes w (Cas m obj field expect value false) fits s legal n l h = s.pasts n l h
 small-next shape sizes w (Launch m number site args) fits s legal n l h = elim (eqb_tells n number) [
-    inl y ↦ small-past (record { past = w.heap; thread = m; site = site; args = args }) (rw y.0 at h) (small-typed shape w.heap fits s.sound.typed)
+  | inl y ↦ small-past (record { past = w.heap; thread = m; site = site; args = args }) (rw y.0 at h) (small-typed shape w.heap fits s.sound.typed)
   | inr ne ↦ s.pasts n l (rw ne.0 at h)
 ]
   where
@@ -126,7 +127,7 @@ read-answer shape sizes w t lane l obj field answer s r here launched some a =
     let stood = object-of-cell l.past obj field some in
     let v = r.forwards.versions obj lane.index lane.number a.forward l here launched stood (record { header = a.header; found = a.found; forward = a.forwarded }) in
     elim (eqb_tells a.forward.epoch lane.number) [
-        inl y ↦ answer-sent w t l.past obj lane.number field a.forward.target answer some (v.forwarded y.1).1 (a.sent y.1)
+      | inl y ↦ answer-sent w t l.past obj lane.number field a.forward.target answer some (v.forwarded y.1).1 (a.sent y.1)
       | inr ne ↦ record { cases = inl (a.live ne.1 ∙ ap (λ (h : Heap). word_at h obj field) r.live.heap ∙ sym (ap (λ (x : Option Object). word_of x field) (s.pasts.same obj lane.number l launched (v.live ne.1))), not-lost shape sizes w obj lane.number s (v.live ne.1)) }
     ]
 

@@ -36,9 +36,9 @@ invariant_of-self c =
     let kind = subst (λ (s : Snapshots). has_kind_of s c.args.obj c.args.field c.args.value ≡ true) (sym c.self.view_is) c.requires.kind in
     let is = c.change_where-done.ensures.done ∙ ap (λ (heap : Heap). is_word (word_at heap c.args.obj c.args.field) c.args.expect) c.self.invariant.tables.live.heap in
     holds-next f.shape f.sizes f.table c.change_where-done.new.self f.journal c.append.new.journal (Cas c.args.m c.args.obj c.args.field c.args.expect c.args.value done) c.self.invariant spare c.append.ensures.events c.append.ensures.spare
-      (legal-cas f.shape f.sizes w c.args.m c.args.obj c.args.field c.args.expect c.args.value done thread cell expect kind is)
-      (cas-same-lanes f.table c.change_where-done.new.self c.args.obj c.args.field c.args.value done c.change_where-done.ensures.changed)
-      (represents-cas f.shape f.sizes w f.table c.change_where-done.new.self c.args.m c.args.obj c.args.field c.args.expect c.args.value done (sound-now f.shape f.sizes f.table f.journal c.self.invariant) c.self.invariant.tables c.change_where-done.ensures.changed)
+    (legal-cas f.shape f.sizes w c.args.m c.args.obj c.args.field c.args.expect c.args.value done thread cell expect kind is)
+    (cas-same-lanes f.table c.change_where-done.new.self c.args.obj c.args.field c.args.value done c.change_where-done.ensures.changed)
+    (represents-cas f.shape f.sizes w f.table c.change_where-done.new.self c.args.m c.args.obj c.args.field c.args.expect c.args.value done (sound-now f.shape f.sizes f.table f.journal c.self.invariant) c.self.invariant.tables c.change_where-done.ensures.changed)
 
 pub returns-clause-legal : goal.returns-clause-legal
 returns-clause-legal c = (invariant_of-self c).legal

@@ -24,7 +24,7 @@ invariant_of-self c =
     let thread : c.args.m < f.sizes.mutators = subst (λ (s : Snapshots). c.args.m < s.sizes.mutators) (sym c.self.view_is) c.requires.thread in
     let word = ap (λ (heap : Heap). word_at heap c.args.obj c.args.field) (sym c.self.invariant.tables.live.heap) ∙ c.load-value.ensures in
     holds-next f.shape f.sizes f.table f.table f.journal c.append.new.journal (Load c.args.m c.args.obj c.args.field c.load-value.result) h spare c.append.ensures.events c.append.ensures.spare
-      (legal-load f.shape f.sizes (world_after f.shape f.sizes f.journal.events) c.args.m c.args.obj c.args.field c.load-value.result thread word) refl c.self.invariant.tables
+    (legal-load f.shape f.sizes (world_after f.shape f.sizes f.journal.events) c.args.m c.args.obj c.args.field c.load-value.result thread word) refl c.self.invariant.tables
 
 pub returns-clause-legal : goal.returns-clause-legal
 returns-clause-legal c = (invariant_of-self c).legal

@@ -32,9 +32,9 @@ invariant_of-self c =
     let number : obj ≡ next_object f.sizes w c.args.m = k.number ∙ ap (λ (n : ℕ). 2 + c.args.m * f.sizes.objects + n) made in
     let legal = legal-new f.shape f.sizes w c.args.m obj c.args.class thread number room c.requires.class declared in
     holds-next f.shape f.sizes f.table c.make_object-obj.new.self f.journal c.append.new.journal (New c.args.m obj c.args.class) c.self.invariant spare c.append.ensures.events c.append.ensures.spare
-      legal
-      (made_same_lanes f.shape f.sizes.objects f.table c.make_object-obj.new.self c.args.m c.args.class obj c.make_object-obj.ensures)
-      (represents-new f.shape f.sizes w f.table c.make_object-obj.new.self c.args.m obj c.args.class (sound-now f.shape f.sizes f.table f.journal c.self.invariant) (legal_new f.shape f.sizes w c.args.m obj c.args.class legal) c.self.invariant.tables c.make_object-obj.ensures)
+    legal
+    (made_same_lanes f.shape f.sizes.objects f.table c.make_object-obj.new.self c.args.m c.args.class obj c.make_object-obj.ensures)
+    (represents-new f.shape f.sizes w f.table c.make_object-obj.new.self c.args.m obj c.args.class (sound-now f.shape f.sizes f.table f.journal c.self.invariant) (legal_new f.shape f.sizes w c.args.m obj c.args.class legal) c.self.invariant.tables c.make_object-obj.ensures)
 
 pub returns-clause-legal : goal.returns-clause-legal
 returns-clause-legal c = (invariant_of-self c).legal

@@ -33,9 +33,9 @@ invariant_of-self c =
     let cell = subst (λ (s : Snapshots). IsSome (word_at (heap_now s) c.args.obj c.args.field)) (sym c.self.view_is) c.requires.cell in
     let kind = subst (λ (s : Snapshots). has_kind_of s c.args.obj c.args.field c.args.value ≡ true) (sym c.self.view_is) c.requires.kind in
     holds-next f.shape f.sizes f.table c.change.new.self f.journal c.append.new.journal (Store c.args.m c.args.obj c.args.field c.args.value) c.self.invariant spare c.append.ensures.events c.append.ensures.spare
-      (legal-store f.shape f.sizes w c.args.m c.args.obj c.args.field c.args.value thread cell kind)
-      (changed_same_lanes f.table c.change.new.self c.args.obj c.args.field c.args.value c.change.ensures)
-      (represents-change f.shape f.sizes w f.table c.change.new.self c.args.obj c.args.field c.args.value (sound-now f.shape f.sizes f.table f.journal c.self.invariant) c.self.invariant.tables c.change.ensures)
+    (legal-store f.shape f.sizes w c.args.m c.args.obj c.args.field c.args.value thread cell kind)
+    (changed_same_lanes f.table c.change.new.self c.args.obj c.args.field c.args.value c.change.ensures)
+    (represents-change f.shape f.sizes w f.table c.change.new.self c.args.obj c.args.field c.args.value (sound-now f.shape f.sizes f.table f.journal c.self.invariant) c.self.invariant.tables c.change.ensures)
 
 pub returns-clause-legal : goal.returns-clause-legal
 returns-clause-legal c = (invariant_of-self c).legal
