@@ -1,4 +1,5 @@
 mod AnyLemmas
+mod DriveLemmas
 mod ForwardLemmas
 mod HeaderLemmas
 mod HoldsLemmas
@@ -10,5 +11,6 @@ mod ReadLemmas
 mod RepresentsChange
 mod RepresentsSteps
 mod RowLemmas
+pub mod StayLemmas
 mod TableLemmas
 mod TargetLemmas

@@ -1,4 +1,4 @@
-use Rattle.std.specs.Prelude.{◌≡◌, ℕ, ◌+◌, ◌*◌, ◌<◌, ◌≤◌, Bool, List, [], ◌∷◌, ◌++◌, length, slice_get, Option, Some, None}
+use Rattle.std.specs.Prelude.{◌≡◌, ℕ, ◌+◌, ◌*◌, ◌<◌, ◌≤◌, Bool, List, [], ◌∷◌, ◌++◌, length, slice_get, Option, Some, None, IsSome}
 use Rattle.st_events.specs.declared.events.Event.{Event}
 use Rattle.st_events.specs.declared.limits.Sizes.{Sizes}
 use Rattle.st_events.specs.Shape.{ShapeLists, IsWithinLimits}
@@ -77,6 +77,14 @@ word_then (Some launch) obj field = word_at launch.past obj field
 -- the word of a cell in the heap as it stood at the launch of a check
 abbrev pub word_at_launch : Snapshots → ℕ → ℕ → ℕ → Option ℕ
 word_at_launch s number obj field = word_then (launch_of s.shape s.sizes s.journal number) obj field
+
+-- the cell exists
+abbrev pub HasCell : Snapshots → ℕ → ℕ → Type 0
+HasCell s obj field = IsSome (word_at (heap_now s) obj field)
+
+-- the cell existed at the launch of the check
+abbrev pub HadCell : Snapshots → ℕ → ℕ → ℕ → Type 0
+HadCell s number obj field = IsSome (word_at_launch s number obj field)
 
 -- whether the version of the object is lost for the check
 abbrev pub is_lost_for : Snapshots → ℕ → ℕ → Bool

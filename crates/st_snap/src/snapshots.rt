@@ -1,5 +1,5 @@
 //! The snapshot heap. It is called with whole operations, keeps its journal, and takes all its memory at `make`.
-ghost use Rattle.std.specs.Prelude.{◌≡◌, ◌≢◌, ℕ, ◌+◌, ◌-◌, ◌*◌, ◌^◌, ◌<◌, ◌≤◌, ◌↔◌, [], ◌∷◌, ◌++◌, length, Some, IsTrue, IsSome, IfOk, IfErr, IsErr, OnErr};
+ghost use Rattle.std.specs.Prelude.{◌≡◌, ◌≢◌, ℕ, ◌+◌, ◌-◌, ◌*◌, ◌^◌, ◌<◌, ◌≤◌, ◌↔◌, [], ◌∷◌, ◌++◌, length, Some, IsTrue, IfOk, IfErr, IsErr, OnErr};
 ghost use Rattle.st_events.specs.Heap.{word_at};
 ghost use Rattle.st_events.specs.Legal.{next_object};
 ghost use Rattle.st_events.specs.Shape.{IsWithinLimits};
@@ -34,7 +34,7 @@ impl Model for SnapHeap {
 }
 
 impl SnapHeap {
-    ghost use Rattle.st_snap.specs.Snapshots.{world_of, heap_now, active_now, rows_now, lanes_now, new_heap, IsLegalHeap, with_event, event_room, HasSpare, IsLaneOf, has_kind_of, are_args_of, word_at_launch, is_lost_for};
+    ghost use Rattle.st_snap.specs.Snapshots.{world_of, heap_now, active_now, rows_now, lanes_now, new_heap, IsLegalHeap, with_event, event_room, HasSpare, IsLaneOf, has_kind_of, are_args_of, HasCell, HadCell, word_at_launch, is_lost_for};
     ghost use Rattle.st_events.specs.declared.events.Event.{Event};
     ghost use Rattle.st_snap.specs.declared.lanes.Lane.{Lane};
 
@@ -75,7 +75,7 @@ impl SnapHeap {
     /// The word of the live heap.
     pub fn load(&mut self, m: u8, obj: u32, field: u8) -> u64
         requires thread { m < self.old.sizes.mutators }
-        requires cell { IsSome (word_at (heap_now self.old) obj field) }
+        requires cell { HasCell self.old obj field }
         requires spare { HasSpare self.old }
         ensures word { word_at (heap_now self.old) obj field ≡ Some result }
         ensures event { self.new ≡ with_event self.old (Event.Load m obj field result) }
@@ -98,7 +98,7 @@ impl SnapHeap {
     /// Writes a word of the live heap.
     pub fn store(&mut self, m: u8, obj: u32, field: u8, value: u64)
         requires thread { m < self.old.sizes.mutators }
-        requires cell { IsSome (word_at (heap_now self.old) obj field) }
+        requires cell { HasCell self.old obj field }
         requires kind { IsTrue (has_kind_of self.old obj field value) }
         requires spare { HasSpare self.old }
         ensures event { self.new ≡ with_event self.old (Event.Store m obj field value) }
@@ -120,7 +120,7 @@ impl SnapHeap {
     /// Writes `value` exactly where the word of the live heap is `expect`, and answers whether it was.
     pub fn cas(&mut self, m: u8, obj: u32, field: u8, expect: u64, value: u64) -> bool
         requires thread { m < self.old.sizes.mutators }
-        requires cell { IsSome (word_at (heap_now self.old) obj field) }
+        requires cell { HasCell self.old obj field }
         requires expect { IsTrue (has_kind_of self.old obj field expect) }
         requires kind { IsTrue (has_kind_of self.old obj field value) }
         requires spare { HasSpare self.old }
@@ -178,7 +178,7 @@ impl SnapHeap {
     /// The word of the heap at the check's launch, unless that version was lost.
     pub fn read(&self, lane: &Lane, obj: u32, field: u8) -> Result<u64, Lost>
         requires lane { IsLaneOf self.now lane.now }
-        requires cell { IsSome (word_at_launch self.now lane.now.number obj field) }
+        requires cell { HadCell self.now lane.now.number obj field }
         ensures word { IfOk result (λ word. word_at_launch self.now lane.now.number obj field ≡ Some word) }
         ensures lost { IsErr result ↔ IsTrue (is_lost_for self.now obj lane.now.number) }
         ensures object { IfErr result (λ lost. lost.obj ≡ obj) }

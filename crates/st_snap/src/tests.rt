@@ -1,7 +1,8 @@
-//! Worked rows of the snapshot heap.
+//! Worked rows of the snapshot heap, on heaps whose fields are all numbers.
+ghost use Rattle.std.specs.Prelude.{◌≡◌, ◌<◌, ◌≤◌, length, IfOk, IsErr};
 
-use crate::SnapHeap;
-use st_events::{Args, Kind, NoMemory, Shape, Sizes};
+use crate::{Lane, SnapHeap};
+use st_events::{Args, Kind, Lost, NoMemory, Shape, Sizes};
 use std::alloc::Global;
 use std::test::Fail;
 
@@ -10,14 +11,160 @@ const NO_ARGS: Args = Args {
     words: [0; 4],
 };
 
+/// The heap under test can't be asked for this: the test has a wrong number, or room or memory is out.
+#[derive(Clone, Copy, Debug)]
+struct Refused;
+
+impl From<NoMemory> for Refused {
+    fn from(_no_memory: NoMemory) -> Refused {
+        Refused
+    }
+}
+
+/// A heap with the objects and the checks that a test knows of, each by the order in which it came.
+#[derive(Drop)]
+struct Driven {
+    heap: SnapHeap,
+    sizes: Sizes,
+    width: u8,
+    /// Each object and how many fields it has; the shared object comes first.
+    objects: Vec<(u32, u8)>,
+    checks: Vec<Lane>,
+    ghost known: { Rattle.st_snap.specs.Drive.IsDriven heap sizes width objects.items checks.items },
+}
+
 /// One shared number, a class 1 of so many numbers, and one check without arguments.
-fn shape(alloc: Global, fields: usize) -> Result<Shape, NoMemory> {
+fn shape_of(alloc: Global, width: u8) -> Result<Shape, NoMemory>
+    ensures { IfOk result (λ shape. shape ≡ Rattle.st_snap.specs.Drive.plain_shape width) }
+{
     let mut classes = Vec::new(alloc);
     classes.push(vec![in alloc; Kind::Int; 1]?)?;
-    classes.push(vec![in alloc; Kind::Int; fields]?)?;
+    classes.push(vec![in alloc; Kind::Int; width as usize]?)?;
     let mut checks = Vec::new(alloc);
     checks.push(Vec::new(alloc))?;
     Ok(Shape { classes, checks })
+}
+
+impl Driven {
+    ghost use Rattle.st_snap.specs.Drive.{CanAct};
+
+    fn make(alloc: Global, width: u8, sizes: Sizes) -> Result<Driven, Refused> {
+        let shape = shape_of(alloc, width)?;
+        if !shape.fits() || !sizes.fits() {
+            return Err(Refused);
+        }
+        let heap = SnapHeap::make(alloc, &shape, &sizes)?;
+        let objects = match Vec::from_slice(alloc, &[(1, 1)]) {
+            Ok(objects) => objects,
+            Err(_) => return Err(Refused),
+        };
+        Ok(Driven {
+            heap,
+            sizes,
+            width,
+            objects,
+            checks: Vec::new(alloc),
+        })
+    }
+
+    /// The number of an object, where the mutator can act on this field of it.
+    fn cell(&self, m: u8, object: usize, field: u8) -> Result<u32, Refused>
+        ensures { IfOk result (λ obj. CanAct self.now.heap m obj field) }
+    {
+        if object >= self.objects.len() {
+            return Err(Refused);
+        }
+        let (obj, fields) = self.objects[object];
+        if m >= self.sizes.mutators || field >= fields || self.heap.spare() == 0 {
+            return Err(Refused);
+        }
+        Ok(obj)
+    }
+
+    /// Makes an object where no check is active.
+    fn new(&mut self, m: u8) -> Result<u32, Refused> {
+        if m >= self.sizes.mutators || self.heap.spare() == 0 || self.heap.room(m) == 0 {
+            return Err(Refused);
+        }
+        if !self.checks.is_empty() {
+            return Err(Refused);
+        }
+        let obj = self.heap.new(m, 1);
+        match self.objects.push((obj, self.width)) {
+            Ok(()) => Ok(obj),
+            Err(_) => Err(Refused),
+        }
+    }
+
+    fn load(&mut self, m: u8, object: usize, field: u8) -> Result<u64, Refused> {
+        let obj = self.cell(m, object, field)?;
+        Ok(self.heap.load(m, obj, field))
+    }
+
+    fn store(&mut self, m: u8, object: usize, field: u8, value: u64) -> Result<(), Refused> {
+        let obj = self.cell(m, object, field)?;
+        self.heap.store(m, obj, field, value);
+        Ok(())
+    }
+
+    fn cas(
+        &mut self,
+        m: u8,
+        object: usize,
+        field: u8,
+        expect: u64,
+        value: u64,
+    ) -> Result<bool, Refused> {
+        let obj = self.cell(m, object, field)?;
+        Ok(self.heap.cas(m, obj, field, expect, value))
+    }
+
+    /// The number of the launched check; None where every lane is active.
+    fn launch(&mut self, m: u8) -> Result<Option<u32>, Refused> {
+        if m >= self.sizes.mutators || self.heap.spare() == 0 {
+            return Err(Refused);
+        }
+        let lane = match self.heap.launch(m, 0, NO_ARGS) {
+            Ok(lane) => lane,
+            Err(_) => return Ok(None),
+        };
+        let number = lane.number();
+        match self.checks.push(lane) {
+            Ok(()) => Ok(Some(number)),
+            Err(_) => Err(Refused),
+        }
+    }
+
+    fn read(&self, check: usize, object: usize, field: u8) -> Result<Result<u64, Lost>, Refused> {
+        if check >= self.checks.len() || object >= self.objects.len() {
+            return Err(Refused);
+        }
+        let (obj, fields) = self.objects[object];
+        if field >= fields {
+            return Err(Refused);
+        }
+        Ok(self.heap.read(&self.checks[check], obj, field))
+    }
+
+    /// Retires a check; those that came after it move up.
+    fn retire(&mut self, m: u8, check: usize) -> Result<(), Refused> {
+        if check >= self.checks.len() || m > self.sizes.mutators || self.heap.spare() == 0 {
+            return Err(Refused);
+        }
+        let lane = self.checks.remove(check);
+        if holds_number(self.checks.as_slice(), lane.number()) {
+            return Err(Refused);
+        }
+        self.heap.retire(m, lane);
+        Ok(())
+    }
+}
+
+/// Whether one of the checks has this number.
+fn holds_number(checks: &[Lane], number: u32) -> bool
+    ensures { result ≡ Rattle.std.specs.List.list_any (λ lane. Rattle.std.specs.Prelude.nat_eq lane.number number) checks.now }
+{
+    checks.iter().any(|lane| lane.number() == number)
 }
 
 fn small(copies: u32) -> Sizes {
@@ -33,58 +180,55 @@ fn small(copies: u32) -> Sizes {
 
 #[test]
 fn two_checks_share_one_copy(rt: HostRuntime) -> Result<(), Fail> {
-    let shape = shape(rt.alloc(), 1)?;
-    let mut heap = SnapHeap::make(rt.alloc(), &shape, &small(4))?;
-    let first = heap.launch(0, 0, NO_ARGS)?;
-    let second = heap.launch(0, 0, NO_ARGS)?;
-    assert_eq!(rt; (first.number(), second.number()), (1, 2));
-    heap.store(0, 1, 0, 5);
-    assert_eq!(rt; heap.free(), 3);
-    assert_eq!(rt; heap.read(&first, 1, 0), Ok(0));
-    assert_eq!(rt; heap.read(&second, 1, 0), Ok(0));
-    assert_eq!(rt; heap.load(0, 1, 0), 5);
-    heap.retire(0, first);
-    assert_eq!(rt; heap.free(), 3);
-    heap.retire(0, second);
-    assert_eq!(rt; heap.free(), 4);
+    let mut heap = Driven::make(rt.alloc(), 0, small(4))?;
+    assert_eq!(rt; heap.launch(0)?, Some(1));
+    assert_eq!(rt; heap.launch(0)?, Some(2));
+    assert_eq!(rt; heap.heap.idle(), 0);
+    heap.store(0, 0, 0, 5)?;
+    assert_eq!(rt; heap.heap.free(), 3);
+    assert_eq!(rt; heap.read(0, 0, 0)?, Ok(0));
+    assert_eq!(rt; heap.read(1, 0, 0)?, Ok(0));
+    assert_eq!(rt; heap.load(0, 0, 0)?, 5);
+    heap.retire(0, 0)?;
+    assert_eq!(rt; heap.heap.free(), 3);
+    heap.retire(0, 0)?;
+    assert_eq!(rt; heap.heap.free(), 4);
     Ok(())
 }
 
 #[test]
 fn each_check_reads_its_own_version(rt: HostRuntime) -> Result<(), Fail> {
-    let shape = shape(rt.alloc(), 1)?;
-    let mut heap = SnapHeap::make(rt.alloc(), &shape, &small(4))?;
-    let first = heap.launch(0, 0, NO_ARGS)?;
-    heap.store(0, 1, 0, 5);
-    let second = heap.launch(0, 0, NO_ARGS)?;
-    heap.store(0, 1, 0, 6);
-    assert_eq!(rt; heap.free(), 2);
-    assert_eq!(rt; heap.read(&first, 1, 0), Ok(0));
-    assert_eq!(rt; heap.read(&second, 1, 0), Ok(5));
-    assert_eq!(rt; heap.load(0, 1, 0), 6);
-    assert!(rt; heap.launch(0, 0, NO_ARGS).is_err());
+    let mut heap = Driven::make(rt.alloc(), 0, small(4))?;
+    assert_eq!(rt; heap.launch(0)?, Some(1));
+    assert!(rt; heap.cas(0, 0, 0, 0, 5)?);
+    assert_eq!(rt; heap.launch(0)?, Some(2));
+    heap.store(0, 0, 0, 6)?;
+    assert!(rt; !heap.cas(0, 0, 0, 5, 7)?);
+    assert_eq!(rt; heap.heap.free(), 2);
+    assert_eq!(rt; heap.read(0, 0, 0)?, Ok(0));
+    assert_eq!(rt; heap.read(1, 0, 0)?, Ok(5));
+    assert_eq!(rt; heap.load(0, 0, 0)?, 6);
+    assert_eq!(rt; heap.launch(0)?, None);
     Ok(())
 }
 
 #[test]
 fn a_full_pool_loses_a_version(rt: HostRuntime) -> Result<(), Fail> {
-    let shape = shape(rt.alloc(), 1)?;
-    let mut heap = SnapHeap::make(rt.alloc(), &shape, &small(1))?;
-    assert_eq!(rt; heap.new(0, 1), 2);
-    let check = heap.launch(0, 0, NO_ARGS)?;
-    heap.store(0, 1, 0, 5);
-    heap.store(0, 2, 0, 6);
-    assert_eq!(rt; heap.read(&check, 1, 0), Ok(0));
-    assert!(rt; heap.read(&check, 2, 0).is_err());
-    assert_eq!(rt; heap.free(), 0);
-    heap.retire(0, check);
-    assert_eq!(rt; heap.free(), 1);
+    let mut heap = Driven::make(rt.alloc(), 1, small(1))?;
+    assert_eq!(rt; heap.new(0)?, 2);
+    assert_eq!(rt; heap.launch(0)?, Some(1));
+    heap.store(0, 0, 0, 5)?;
+    heap.store(0, 1, 0, 6)?;
+    assert_eq!(rt; heap.read(0, 0, 0)?, Ok(0));
+    assert_eq!(rt; heap.read(0, 1, 0)?, Err(Lost { obj: 2 }));
+    assert_eq!(rt; heap.heap.free(), 0);
+    heap.retire(0, 0)?;
+    assert_eq!(rt; heap.heap.free(), 1);
     Ok(())
 }
 
 #[test]
-fn long_runs_take_no_longer_per_step(rt: HostRuntime) -> Result<(), Fail> {
-    let shape = shape(rt.alloc(), 12)?;
+fn long_runs_take_no_longer_for_each_step(rt: HostRuntime) -> Result<(), Fail> {
     let sizes = Sizes {
         mutators: 8,
         lanes: 1,
@@ -93,29 +237,35 @@ fn long_runs_take_no_longer_per_step(rt: HostRuntime) -> Result<(), Fail> {
         events: 131_072,
         calls: 10,
     };
-    let mut heap = SnapHeap::make(rt.alloc(), &shape, &sizes)?;
+    let mut heap = Driven::make(rt.alloc(), 12, sizes)?;
     for m in 0..8 {
         for _ in 0..16_384 {
-            heap.new(m, 1);
+            heap.new(m)?;
         }
     }
     for k in 1..200_001 {
-        let check = heap.launch(0, 0, NO_ARGS)?;
-        heap.store(0, 2, 0, k);
-        assert_eq!(rt; heap.read(&check, 2, 0), Ok(k - 1));
-        assert_eq!(rt; heap.free(), 3);
-        heap.retire(0, check);
-        assert_eq!(rt; heap.free(), 4);
+        assert!(rt; heap.launch(0)?.is_some());
+        heap.store(0, 1, 0, k)?;
+        assert_eq!(rt; heap.read(0, 1, 0)?, Ok(k - 1));
+        assert_eq!(rt; heap.heap.free(), 3);
+        heap.retire(0, 0)?;
+        assert_eq!(rt; heap.heap.free(), 4);
     }
-    let check = heap.launch(0, 0, NO_ARGS)?;
+    assert!(rt; heap.launch(0)?.is_some());
     for k in 1..300_001 {
-        heap.store(0, 2, 1, k);
+        heap.store(0, 1, 1, k)?;
     }
     for _ in 0..300_000 {
-        assert_eq!(rt; heap.read(&check, 131_073, 0), Ok(0));
+        assert_eq!(rt; heap.read(0, 131_072, 0)?, Ok(0));
     }
-    assert_eq!(rt; heap.free(), 3);
+    assert_eq!(rt; heap.heap.free(), 3);
+    let Driven {
+        heap,
+        sizes: _,
+        width: _,
+        objects: _,
+        checks: _,
+    } = heap;
     assert_eq!(rt; heap.into_journal().len(), 1_031_073);
-    let _ = check;
     Ok(())
 }

@@ -8,3 +8,5 @@ use Rattle.st_snap.proofs.RepresentsChange.{IsReady}
 use Rattle.st_snap.proofs.ReadLemmas.{read-answer}
 use Rattle.st_snap.proofs.LegalEvents.{legal-load}
 use Rattle.st_snap.proofs.HoldsLemmas.{holds-next}
+use Rattle.st_snap.proofs.StayLemmas.{cell-stays}
+use Rattle.st_snap.proofs.DriveLemmas.{driven-kind}
