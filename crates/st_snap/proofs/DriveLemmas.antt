@@ -1,6 +1,8 @@
 -- The tests' heaps over one more event
-use Rattle.std.proofs.Common.{◌≡◌, ◌≢◌, ℕ, zero, suc, ◌+◌, ◌<◌, ◌≤◌, Bool, true, false, List, [], ◌∷◌, ◌++◌, length, map, replicate, slice_get, Option, Some, None, refl, sym, ◌∙◌, ap, subst, arith, IsSome, take, drop}
-use Rattle.std.specs.List.{All, remove}
+use Rattle.std.proofs.Common.{◌≡◌, ◌≢◌, ℕ, zero, suc, ◌+◌, ◌<◌, ◌≤◌, Bool, true, false, List, [], ◌∷◌, ◌++◌, length, map, replicate, slice_get, Option, Some, None, refl, sym, ◌∙◌, ap, subst, arith, IsSome, take, drop, get_or, cond, ◌==◌}
+use Rattle.std.specs.List.{All, remove, list_any}
+use Rattle.std.proofs.lemmas.List.Folds.{list_any_at}
+use Rattle.st_events.proofs.AmongLemmas.{same_number}
 use Rattle.std.specs.Option.{unwrap_or}
 use Rattle.std.proofs.lemmas.List.{length-map, length-replicate}
 use Rattle.std.proofs.lemmas.List.Elements.{All-weaker, All-push, All-append, All-take, All-drop, All-nil}
@@ -53,24 +55,44 @@ driven-kind s sizes width known held obj field word d cell = cases (word_at (hea
     cases (Some found) e i = subst (λ (shape : ShapeLists). fits_cell shape (heap_now s) obj field word ≡ true) (sym d.shape) (int-fits width (heap_now s) (heap_now s obj) field found word (subst (λ (shape : ShapeLists). fits_cell shape (heap_now s) obj field found ≡ true) d.shape (typed.kinds obj field found e)))
 
 -- what is known stays known
-lane-stays : (s : Snapshots) (e : Event) (known : List (ℕ × ℕ)) → IsWithinLimits s.shape → IsLegalHeap (with_event s e) → ((lane : Lane) → IsLaneOf s lane → IsLaneOf (with_event s e) lane) → (lane : Lane) → IsDrivenLane s known lane → IsDrivenLane (with_event s e) known lane
-lane-stays s e known fits legal stay lane h = record {
-  is = stay lane h.is;
+lane-stays : (s : Snapshots) (e : Event) (known : List (ℕ × ℕ)) → IsWithinLimits s.shape → IsLegalHeap (with_event s e) → (lane : Lane) → (IsLaneOf s lane → IsLaneOf (with_event s e) lane) → IsDrivenLane s known lane → IsDrivenLane (with_event s e) known lane
+lane-stays s e known fits legal lane stay h = record {
+  is = stay h.is;
   had = All-weaker (HadCells s lane.number) (HadCells (with_event s e) lane.number) (λ object had field lt. past-stays s e lane.number object.0 field fits legal (had field lt)) known h.had;
 }
 
-pub driven-stays : (s s' : Snapshots) (e : Event) (sizes : Sizes) (width : ℕ) (known : List (ℕ × ℕ)) (held : List Lane) → IsDriven s sizes width known held → s' ≡ with_event s e → IsLegalHeap s' → ((lane : Lane) → IsLaneOf s lane → IsLaneOf s' lane) → IsDriven s' sizes width known held
-driven-stays s s' e sizes width known held d same legal stay = subst (λ (x : Snapshots). IsDriven x sizes width known held) (sym same) (go (subst (λ (x : Snapshots). IsLegalHeap x) same legal) (λ lane is. subst (λ (x : Snapshots). IsLaneOf x lane) same (stay lane is)))
+pub driven-held : (s s' : Snapshots) (e : Event) (sizes : Sizes) (width : ℕ) (known : List (ℕ × ℕ)) (held : List Lane) → IsDriven s sizes width known held → s' ≡ with_event s e → IsLegalHeap s' → All (λ lane. IsLaneOf s lane → IsLaneOf s' lane) held → IsDriven s' sizes width known held
+driven-held s s' e sizes width known held d same legal stay = subst (λ (x : Snapshots). IsDriven x sizes width known held) (sym same) (go (subst (λ (x : Snapshots). IsLegalHeap x) same legal) (λ k lane lt is. subst (λ (x : Snapshots). IsLaneOf x (get_or held k lane)) same (stay k lane lt is)))
   where
-    go : IsLegalHeap (with_event s e) → ((lane : Lane) → IsLaneOf s lane → IsLaneOf (with_event s e) lane) → IsDriven (with_event s e) sizes width known held
+    go : IsLegalHeap (with_event s e) → All (λ lane. IsLaneOf s lane → IsLaneOf (with_event s e) lane) held → IsDriven (with_event s e) sizes width known held
     go legal stay = record {
       sizes = d.sizes;
       shape = d.shape;
       fits = d.fits;
       legal = legal;
       objects = All-weaker (HasCells s) (HasCells (with_event s e)) (λ object has field lt. cell-stays s e object.0 field d.fits legal (has field lt)) known d.objects;
-      lanes = All-weaker (IsDrivenLane s known) (IsDrivenLane (with_event s e) known) (λ lane h. lane-stays s e known d.fits legal stay lane h) held d.lanes;
+      lanes = λ k lane lt. lane-stays s e known d.fits legal (get_or held k lane) (stay k lane lt) (d.lanes k lane lt);
     }
+
+pub driven-stays : (s s' : Snapshots) (e : Event) (sizes : Sizes) (width : ℕ) (known : List (ℕ × ℕ)) (held : List Lane) → IsDriven s sizes width known held → s' ≡ with_event s e → IsLegalHeap s' → ((lane : Lane) → IsLaneOf s lane → IsLaneOf s' lane) → IsDriven s' sizes width known held
+driven-stays s s' e sizes width known held d same legal stay = driven-held s s' e sizes width known held d same legal (λ k lane lt is. stay (get_or held k lane) is)
+
+-- a list that grew by one, or did not
+pub driven-pushed : (s : Snapshots) (sizes : Sizes) (width : ℕ) (known : List (ℕ × ℕ)) (held items : List Lane) (lane : Lane) (b : Bool) → IsDriven s sizes width known held → IsDriven s sizes width known (held ++ lane ∷ []) → items ≡ cond b (held ++ lane ∷ []) held → IsDriven s sizes width known items
+driven-pushed s sizes width known held items lane true d more e = subst (λ (x : List Lane). IsDriven s sizes width known x) (sym e) more
+driven-pushed s sizes width known held items lane false d more e = subst (λ (x : List Lane). IsDriven s sizes width known x) (sym e) d
+
+pub driven-known : (s : Snapshots) (sizes : Sizes) (width : ℕ) (known items : List (ℕ × ℕ)) (held : List Lane) (object : ℕ × ℕ) (b : Bool) → IsDriven s sizes width known held → IsDriven s sizes width (known ++ object ∷ []) held → items ≡ cond b (known ++ object ∷ []) known → IsDriven s sizes width items held
+driven-known s sizes width known items held object true d more e = subst (λ (x : List (ℕ × ℕ)). IsDriven s sizes width x held) (sym e) more
+driven-known s sizes width known items held object false d more e = subst (λ (x : List (ℕ × ℕ)). IsDriven s sizes width x held) (sym e) d
+
+-- no check has the number
+pub other-numbers : (held : List Lane) (number : ℕ) → list_any (λ lane. lane.number == number) held ≡ false → All (λ lane. lane.number ≢ number) held
+other-numbers held number none = λ k lane lt same. (let some : list_any (λ (x : Lane). x.number == number) held ≡ true = list_any_at (λ (x : Lane). x.number == number) held k lane lt (subst (λ (n : ℕ). (n == number) ≡ true) (sym same) (same_number number)) in cc)
+
+pub empty-list : {X : Type 0} (xs : List X) → length xs ≡ 0 → xs ≡ []
+empty-list [] e = refl
+empty-list (x ∷ xs) e = absurd (omega arith)
 
 -- the start: the shared object has one field
 pub driven-first : (sizes : Sizes) (width : ℕ) → IsWithinLimits (plain_shape width) → IsDriven (new_heap (plain_shape width) sizes) sizes width ((1, 1) ∷ []) []

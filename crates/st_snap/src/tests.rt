@@ -1,9 +1,12 @@
 //! Worked rows of the snapshot heap, on heaps whose fields are all numbers.
-ghost use Rattle.std.specs.Prelude.{◌≡◌, ◌<◌, ◌≤◌, length, IfOk, IsErr};
+ghost use Rattle.std.specs.Prelude.{◌≡◌, ◌==◌, IfOk};
+ghost use Rattle.std.specs.List.{list_any};
+ghost use Rattle.st_snap.specs.Drive.{plain_shape, CanAct};
 
 use crate::{Lane, SnapHeap};
 use st_events::{Args, Kind, Lost, NoMemory, Shape, Sizes};
 use std::alloc::Global;
+use std::marker::Model;
 use std::test::Fail;
 
 const NO_ARGS: Args = Args {
@@ -30,12 +33,23 @@ struct Driven {
     /// Each object and how many fields it has; the shared object comes first.
     objects: Vec<(u32, u8)>,
     checks: Vec<Lane>,
-    ghost known: { Rattle.st_snap.specs.Drive.IsDriven heap sizes width objects.items checks.items },
+}
+
+impl Model for Driven {
+    ghost use Rattle.st_snap.specs.Snapshots.{Snapshots};
+
+    ghost Value = { Snapshots };
+
+    ghost use Rattle.st_snap.specs.Drive.{IsDriven};
+
+    ghost view = { λ d. d.heap };
+
+    ghost invariant = { λ d. IsDriven d.heap d.sizes d.width d.objects.items d.checks.items };
 }
 
 /// One shared number, a class 1 of so many numbers, and one check without arguments.
 fn shape_of(alloc: Global, width: u8) -> Result<Shape, NoMemory>
-    ensures { IfOk result (λ shape. shape ≡ Rattle.st_snap.specs.Drive.plain_shape width) }
+    ensures { IfOk result (λ shape. shape ≡ plain_shape width) }
 {
     let mut classes = Vec::new(alloc);
     classes.push(vec![in alloc; Kind::Int; 1]?)?;
@@ -46,8 +60,6 @@ fn shape_of(alloc: Global, width: u8) -> Result<Shape, NoMemory>
 }
 
 impl Driven {
-    ghost use Rattle.st_snap.specs.Drive.{CanAct};
-
     fn make(alloc: Global, width: u8, sizes: Sizes) -> Result<Driven, Refused> {
         let shape = shape_of(alloc, width)?;
         if !shape.fits() || !sizes.fits() {
@@ -69,7 +81,7 @@ impl Driven {
 
     /// The number of an object, where the mutator can act on this field of it.
     fn cell(&self, m: u8, object: usize, field: u8) -> Result<u32, Refused>
-        ensures { IfOk result (λ obj. CanAct self.now.heap m obj field) }
+        ensures { IfOk result (λ obj. CanAct self.now m obj field) }
     {
         if object >= self.objects.len() {
             return Err(Refused);
@@ -162,7 +174,7 @@ impl Driven {
 
 /// Whether one of the checks has this number.
 fn holds_number(checks: &[Lane], number: u32) -> bool
-    ensures { result ≡ Rattle.std.specs.List.list_any (λ lane. Rattle.std.specs.Prelude.nat_eq lane.number number) checks.now }
+    ensures { result ≡ list_any (λ lane. lane.number == number) checks.now }
 {
     checks.iter().any(|lane| lane.number() == number)
 }
