@@ -1,0 +1,16 @@
+mod AnyLemmas
+mod DriveLemmas
+mod ForwardLemmas
+mod HeaderLemmas
+mod HoldsLemmas
+mod LaneLemmas
+mod LegalEvents
+mod ListLemmas
+mod PoolLemmas
+mod ReadLemmas
+mod RepresentsChange
+mod RepresentsSteps
+mod RowLemmas
+pub mod StayLemmas
+mod TableLemmas
+mod TargetLemmas

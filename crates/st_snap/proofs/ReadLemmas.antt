@@ -1,0 +1,138 @@
+-- A read gives the word of the heap at the launch, or tells that the version is lost
+use Rattle.std.proofs.Common.{◌≡◌, ◌≢◌, ℕ, ◌+◌, ◌<◌, ◌≤◌, ◌⊎◌, Bool, true, false, inl, inr, List, length, slice_get, slice_index, Option, Some, None, refl, sym, ◌∙◌, ap, subst, arith, IsSome}
+use Rattle.std.specs.List.{Contains}
+use Rattle.std.specs.Option.{option_flatten}
+use Rattle.std.proofs.lemmas.Bool.Decides.{eqb_tells}
+use Rattle.std.proofs.lemmas.Option.{slice_get_within}
+use Rattle.st_events.specs.declared.events.Event.{Event}
+use Rattle.st_events.specs.declared.events.Event.TheVariants.{New, Load, Store, Cas, Launch, Retire}
+use Rattle.st_events.specs.declared.limits.Sizes.{Sizes}
+use Rattle.st_events.specs.declared.shapes.TheConstants.{MOST_FIELDS}
+use Rattle.st_events.specs.Shape.{ShapeLists, IsWithinLimits, kinds_of}
+use Rattle.st_events.specs.Heap.{Heap, Object, heap_of, word_of, word_at}
+use Rattle.st_events.specs.World.{World, Launched, next, first_world, world_after, at, is_lost}
+use Rattle.st_events.specs.Legal.{IsLegal, IsLegalNext}
+use Rattle.st_events.specs.Sound.{IsSound, IsTypedHeap}
+use Rattle.st_events.proofs.HeapLemmas.{length-kinds_of}
+use Rattle.st_events.proofs.LegalLemmas.{stays}
+use Rattle.st_events.proofs.SoundLemmas.{sound-first, sound-next}
+use Rattle.st_snap.specs.declared.headers.Forward.{Forward}
+use Rattle.st_snap.specs.declared.headers.Target.{Target}
+use Rattle.st_snap.specs.declared.headers.Target.TheVariants.{Copied, Gone}
+use Rattle.st_snap.specs.declared.lanes.Lane.{Lane}
+use Rattle.st_snap.specs.Table.{TableLists, Reads, AnswersAt, AreCopies, HasWords}
+use Rattle.st_snap.specs.Represents.{Represents, IsForwardAt, IsTargetOf}
+
+-- ---- no object has more words than there may be fields
+
+abbrev pub IsSmall : Heap → Type 0
+IsSmall heap = (obj : ℕ) (x : Object) → heap obj ≡ Some x → length x.words ≤ MOST_FIELDS
+
+pub small-typed : (shape : ShapeLists) (heap : Heap) → IsWithinLimits shape → IsTypedHeap shape heap → IsSmall heap
+small-typed shape heap l t obj x e = omega (arith, t.lengths obj x e, length-kinds_of shape l x.class)
+
+-- so a field of a cell is below that number
+pub small-field : (heap : Heap) (obj field : ℕ) → IsSmall heap → IsSome (word_at heap obj field) → field < MOST_FIELDS
+small-field heap obj field small some = cases (heap obj) refl some
+  where
+    within : (x : Object) (o : Option ℕ) → slice_get x.words field ≡ o → IsSome o → field < length x.words
+    within x None e i = cc
+    within x (Some word) e i = slice_get_within x.words field word e
+
+    cases : (o : Option Object) → heap obj ≡ o → IsSome (word_of o field) → field < MOST_FIELDS
+    cases None e i = cc
+    cases (Some x) e i = omega (arith, small obj x e, within x (slice_get x.words field) refl i)
+
+-- the same of the heap at each launch
+record HasSmallPasts (shape : ShapeLists) (sizes : Sizes) (w : World) : Type 0 where
+  sound : IsSound shape sizes w
+  pasts : (n : ℕ) (l : Launched) → w.launched n ≡ Some l → IsSmall l.past
+
+small-next : (shape : ShapeLists) (sizes : Sizes) (w : World) (e : Event) → IsWithinLimits shape → HasSmallPasts shape sizes w → IsLegalNext shape sizes w e → (n : ℕ) (l : Launched) → (next shape sizes w e).launched n ≡ Some l → IsSmall l.past
+small-next shape sizes w (New m obj class) fits s legal n l h = s.pasts n l h
+small-next shape sizes w (Load m obj field value) fits s legal n l h = s.pasts n l h
+small-next shape sizes w (Store m obj field value) fits s legal n l h = s.pasts n l h
+small-next shape sizes w (Cas m obj field expect value true) fits s legal n l h = s.pasts n l h
+small-next shape sizes w (Cas m obj field expect value false) fits s legal n l h = s.pasts n l h
+small-next shape sizes w (Launch m number site args) fits s legal n l h = elim (eqb_tells n number) [
+  | inl y ↦ small-past (record { past = w.heap; thread = m; site = site; args = args }) (rw y.0 at h) (small-typed shape w.heap fits s.sound.typed)
+  | inr ne ↦ s.pasts n l (rw ne.0 at h)
+]
+  where
+    small-past : (k : Launched) → Some k ≡ Some l → IsSmall k.past → IsSmall l.past
+    small-past k e small = let same : k ≡ l = cc in subst (λ (x : Launched). IsSmall x.past) same small
+small-next shape sizes w (Retire m number) fits s legal n l h = s.pasts n l h
+
+pub small-pasts : (shape : ShapeLists) (sizes : Sizes) (es : List Event) → IsWithinLimits shape → IsLegal shape sizes es → (n : ℕ) (l : Launched) → (world_after shape sizes es).launched n ≡ Some l → IsSmall l.past
+small-pasts shape sizes es fits legal = (stays shape sizes (HasSmallPasts shape sizes)
+    (record { sound = sound-first shape sizes fits; pasts = λ n l e. cc })
+    (λ w e s ok. record { sound = sound-next shape sizes w e s.sound ok; pasts = small-next shape sizes w e fits s ok })
+    es legal).pasts
+
+-- ---- what a read comes to
+
+-- an object that stood at a launch stands now
+pub still-there : (shape : ShapeLists) (sizes : Sizes) (w : World) (obj n : ℕ) (l : Launched) → IsSound shape sizes w → w.launched n ≡ Some l → IsSome (l.past obj) → IsSome (w.heap obj)
+still-there shape sizes w obj n l s e stood = cases (w.heap obj) refl
+  where
+    cases : (o : Option Object) → w.heap obj ≡ o → IsSome (w.heap obj)
+    cases (Some x) h = rw h refl
+    cases None h =
+        let first = s.launches.only n l e in
+        let stamp = s.stamps.unmade obj h in
+        let past : l.past obj ≡ None = s.pasts.same obj n l e (omega (arith, stamp, first)) ∙ h in
+        let g = rw past at stood in cc
+
+-- an object that stands has its place
+pub has-place : (objects : List (Option Object)) (obj : ℕ) → IsSome (heap_of objects obj) → obj < length objects
+has-place objects obj some = cases (slice_get objects obj) refl some
+  where
+    cases : (o : Option (Option Object)) → slice_get objects obj ≡ o → IsSome (option_flatten o) → obj < length objects
+    cases None e i = cc
+    cases (Some x) e i = slice_get_within objects obj x e
+
+-- a cell's object stands
+pub object-of-cell : (heap : Heap) (obj field : ℕ) → IsSome (word_at heap obj field) → IsSome (heap obj)
+object-of-cell heap obj field some = cases (heap obj) refl some
+  where
+    cases : (o : Option Object) → heap obj ≡ o → IsSome (word_of o field) → IsSome (heap obj)
+    cases None e i = cc
+    cases (Some x) e i = rw e refl
+
+-- the answer is the word then, and the version is not lost; or there is none, and the version is lost
+pub record IsAnswer (w : World) (past : Heap) (obj n field : ℕ) (answer : Option ℕ) : Type 0 where
+  pub cases : ((answer ≡ word_at past obj field) × (is_lost w.lost obj n ≡ false)) ⊎ ((answer ≡ None) × (is_lost w.lost obj n ≡ true))
+
+not-lost : (shape : ShapeLists) (sizes : Sizes) (w : World) (obj n : ℕ) → IsSound shape sizes w → w.stamp obj < n → is_lost w.lost obj n ≡ false
+not-lost shape sizes w obj n s low = cases (is_lost w.lost obj n) refl
+  where
+    cases : (b : Bool) → is_lost w.lost obj n ≡ b → b ≡ false
+    cases false e = refl
+    cases true e = absurd (omega (arith, low, (s.copies.lost_noted obj n e).changed))
+
+-- the words of a copy are those of the version
+words-then : (words : List ℕ) (x : Option Object) (field : ℕ) → HasWords words x → IsSome (word_of x field) → Some (slice_index words field) ≡ word_of x field
+words-then words x field has some = cases (word_of x field) refl some
+  where
+    cases : (o : Option ℕ) → word_of x field ≡ o → IsSome o → Some (slice_index words field) ≡ word_of x field
+    cases None e i = cc
+    cases (Some word) e i = ap Some (has field word e) ∙ sym e
+
+answer-sent : (w : World) (t : TableLists) (past : Heap) (obj n field : ℕ) (target : Target) (answer : Option ℕ) → IsSome (word_at past obj field) → IsTargetOf w.lost t.pool obj n (past obj) target → AnswersAt t.pool field target answer → IsAnswer w past obj n field answer
+answer-sent w t past obj n field Gone answer some lost a = record { cases = inr (a, lost) }
+answer-sent w t past obj n field (Copied copy) answer some held a = record { cases = inl (a held.1.kept held.1.among held.1.number ∙ words-then held.1.kept.words (past obj) field held.1.words some, held.2) }
+
+pub read-answer : (shape : ShapeLists) (sizes : Sizes) (w : World) (t : TableLists) (lane : Lane) (l : Launched) (obj field : ℕ) (answer : Option ℕ) → IsSound shape sizes w → Represents sizes w t → slice_get t.lanes lane.index ≡ Some (Some lane.number) → w.launched lane.number ≡ Some l → IsSome (word_at l.past obj field) → Reads t lane obj field answer → IsAnswer w l.past obj lane.number field answer
+read-answer shape sizes w t lane l obj field answer s r here launched some a =
+    let stood = object-of-cell l.past obj field some in
+    let v = r.forwards.versions obj lane.index lane.number a.forward l here launched stood (record { header = a.header; found = a.found; forward = a.forwarded }) in
+    elim (eqb_tells a.forward.epoch lane.number) [
+      | inl y ↦ answer-sent w t l.past obj lane.number field a.forward.target answer some (v.forwarded y.1).1 (a.sent y.1)
+      | inr ne ↦ record { cases = inl (a.live ne.1 ∙ ap (λ (h : Heap). word_at h obj field) r.live.heap ∙ sym (ap (λ (x : Option Object). word_of x field) (s.pasts.same obj lane.number l launched (v.live ne.1))), not-lost shape sizes w obj lane.number s (v.live ne.1)) }
+    ]
+
+-- each copy that the check is sent to is one of the pool's
+pub sent-to-copies : (sizes : Sizes) (w : World) (t : TableLists) (lane : Lane) (l : Launched) (obj : ℕ) → Represents sizes w t → slice_get t.lanes lane.index ≡ Some (Some lane.number) → w.launched lane.number ≡ Some l → IsSome (l.past obj) → AreCopies t lane obj
+sent-to-copies sizes w t lane l obj r here launched stood = λ header forward copy found forwarded epoch target.
+    let v = r.forwards.versions obj lane.index lane.number forward l here launched stood (record { header = header; found = found; forward = forwarded }) in
+    (subst (IsTargetOf w.lost t.pool obj lane.number (l.past obj)) target (v.forwarded epoch).1).0

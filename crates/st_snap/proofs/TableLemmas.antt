@@ -1,0 +1,29 @@
+-- What keeping a version leaves as it was
+use Rattle.std.proofs.Common.{◌≡◌, ℕ, length, refl, ap, ◌∙◌, inl, inr}
+use Rattle.std.proofs.Common.{Option}
+use Rattle.st_snap.specs.Table.{TableLists, KeepsVersion, Changes, Makes, sent}
+use Rattle.st_events.specs.Shape.{ShapeLists}
+use Rattle.st_snap.proofs.ListLemmas.{length-adjust}
+
+pub kept_same_heap : (before after : TableLists) (obj : ℕ) → KeepsVersion before after obj → after.heap ≡ before.heap
+kept_same_heap before after obj k = elim k.cases [ inl y ↦ ap (λ (t : TableLists). t.heap) y.rest | inr n ↦ ap (λ (t : TableLists). t.heap) n.1 ]
+
+pub kept_same_epoch : (before after : TableLists) (obj : ℕ) → KeepsVersion before after obj → after.epoch ≡ before.epoch
+kept_same_epoch before after obj k = elim k.cases [ inl y ↦ ap (λ (t : TableLists). t.epoch) y.rest | inr n ↦ ap (λ (t : TableLists). t.epoch) n.1 ]
+
+pub kept_header_room : (before after : TableLists) (obj : ℕ) → KeepsVersion before after obj → length after.headers ≡ length before.headers
+kept_header_room before after obj k = elim k.cases [
+  | inl y ↦ ap (λ (t : TableLists). length t.headers) y.rest ∙ length-adjust (sent y.target before.lanes) before.headers obj
+  | inr n ↦ ap (λ (t : TableLists). length t.headers) n.1
+]
+
+kept_same_lanes : (before after : TableLists) (obj : ℕ) → KeepsVersion before after obj → after.lanes ≡ before.lanes
+kept_same_lanes before after obj k = elim k.cases [ inl y ↦ ap (λ (t : TableLists). t.lanes) y.rest | inr n ↦ ap (λ (t : TableLists). t.lanes) n.1 ]
+
+-- a change leaves the lanes
+pub changed_same_lanes : (before after : TableLists) (obj field value : ℕ) → Changes before after obj field value → after.lanes ≡ before.lanes
+changed_same_lanes before after obj field value c = ap (λ (t : TableLists). t.lanes) c.rest ∙ kept_same_lanes before c.between obj c.version
+
+-- a new object leaves the lanes
+pub made_same_lanes : (shape : ShapeLists) (objects : ℕ) (before after : TableLists) (m class obj : ℕ) → Makes shape objects before after m class obj → after.lanes ≡ before.lanes
+made_same_lanes shape objects before after m class obj k = ap (λ (t : TableLists). t.lanes) k.rest

@@ -1,0 +1,48 @@
+-- What a forwarding word means, while other things change
+use Rattle.std.proofs.Common.{◌≡◌, ◌≢◌, ℕ, ◌+◌, ◌<◌, ◌≤◌, ◌⊎◌, cond, Bool, true, false, inl, inr, List, ◌++◌, length, map, slice_get, Option, Some, None, refl, sym, ◌∙◌, ap, subst, arith, nat_lt}
+use Rattle.std.specs.List.{Contains}
+use Rattle.std.proofs.lemmas.Bool.Decides.{eqb_tells, nat_tests}
+use Rattle.st_events.specs.declared.limits.Sizes.{Sizes}
+use Rattle.st_events.specs.Heap.{Object}
+use Rattle.st_events.specs.World.{World, Pair, is_lost, is_full, is_among, needing_in, lost_at_change}
+use Rattle.st_events.proofs.AmongLemmas.{is_among-filter}
+use Rattle.st_events.proofs.LegalLemmas.{is_below}
+use Rattle.st_events.proofs.KeptLemmas.{is_lost-append, is_lost-front, is_lost-back, is_lost-pairs, pairs-is_lost}
+use Rattle.st_snap.specs.declared.headers.Forward.{Forward}
+use Rattle.st_snap.specs.declared.headers.Header.{Header}
+use Rattle.st_snap.specs.declared.headers.Target.{Target}
+use Rattle.st_snap.specs.declared.headers.Target.TheVariants.{Copied, Gone}
+use Rattle.st_snap.specs.Pool.{PoolVersions, KeptVersion}
+use Rattle.st_snap.specs.Table.{adjust, stamped}
+use Rattle.st_snap.specs.Represents.{IsCopyOf, IsTargetOf, IsForwardAt}
+use Rattle.st_snap.proofs.AnyLemmas.{bool_same}
+use Rattle.st_snap.proofs.ListLemmas.{adjust-other, adjust-found}
+
+-- a target means the same where its copy stays, and the pair is lost or not as before
+pub target-kept : (lost lost' : List Pair) (pool pool' : PoolVersions) (obj n : ℕ) (past : Option Object) (target : Target) → is_lost lost' obj n ≡ is_lost lost obj n → pool'.size ≡ pool.size → ((kept : KeptVersion) → kept.version.after < n → n ≤ kept.version.upto → Contains pool.versions kept → Contains pool'.versions kept) → IsTargetOf lost pool obj n past target → IsTargetOf lost' pool' obj n past target
+target-kept lost lost' pool pool' obj n past Gone same size stays t = same ∙ t
+target-kept lost lost' pool pool' obj n past (Copied copy) same size stays t = (rw size t.0, record { kept = t.1.kept; among = stays t.1.kept t.1.after t.1.upto t.1.among; object = t.1.object; after = t.1.after; upto = t.1.upto; number = t.1.number; words = t.1.words }, same ∙ t.2)
+
+-- a change loses no version of another object, nor one for a check that was launched before the stamp
+pub lost-other : (sizes : Sizes) (w : World) (obj o n : ℕ) → (o ≢ obj) ⊎ (n ≤ w.stamp obj) → is_lost (lost_at_change sizes w obj) o n ≡ is_lost w.lost o n
+lost-other sizes w obj o n other = cases (is_full sizes w)
+  where
+    not_lost : is_lost (map (λ k. record { obj = obj; check = k }) (needing_in w obj)) o n ≡ true → ⊥
+    not_lost h =
+        let p = is_lost-pairs obj (needing_in w obj) o n h in
+        let above = is_below (w.stamp obj) n (is_among-filter (λ k. nat_lt (w.stamp obj) k) w.active n p.1).1 in
+        elim other [ inl ne ↦ ne (sym p.0) | inr le ↦ omega (arith, above, le) ]
+
+    cases : (b : Bool) → is_lost (cond b (w.lost ++ map (λ k. record { obj = obj; check = k }) (needing_in w obj)) w.lost) o n ≡ is_lost w.lost o n
+    cases false = refl
+    cases true = bool_same (is_lost (w.lost ++ map (λ k. record { obj = obj; check = k }) (needing_in w obj)) o n) (is_lost w.lost o n)
+        (λ h. elim (is_lost-append w.lost (map (λ k. record { obj = obj; check = k }) (needing_in w obj)) o n h) [ inl l ↦ l | inr r ↦ absurd (not_lost r) ])
+        (λ h. is_lost-front w.lost (map (λ k. record { obj = obj; check = k }) (needing_in w obj)) o n h)
+
+-- a stamp changes no forwarding word
+pub forward-stamped : (epoch : ℕ) (headers : List Header) (obj o lane : ℕ) (f : Forward) → IsForwardAt (adjust (stamped epoch) headers obj) o lane f → IsForwardAt headers o lane f
+forward-stamped epoch headers obj o lane f a = elim (eqb_tells o obj) [
+  | inl s ↦ (let b = adjust-found (stamped epoch) headers obj a.header (ap (slice_get (adjust (stamped epoch) headers obj)) (sym s.1) ∙ a.found) in
+      record { header = b.0; found = ap (slice_get headers) s.1 ∙ b.1; forward = ap (λ (h : Header). slice_get h.forward lane) (sym b.2) ∙ a.forward })
+  | inr s ↦ record { header = a.header; found = sym (adjust-other (stamped epoch) headers obj o s.1) ∙ a.found; forward = a.forward }
+]

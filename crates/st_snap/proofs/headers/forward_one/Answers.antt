@@ -1,0 +1,12 @@
+use Rattle.st_snap.proofs.LaneLemmas.{set-same}
+use Rattle.st_snap.proofs.AnyLemmas.{bool_same}
+use Rattle.st_snap.proofs.RowLemmas.{within}
+use Rattle.st_snap.proofs.ForwardLemmas.{forwarded-at}
+use Rattle.st_snap.proofs.TargetLemmas.{target-kept}
+use Rattle.st_snap.proofs.RepresentsSteps.{represents-new}
+use Rattle.st_snap.proofs.RepresentsChange.{IsReady}
+use Rattle.st_snap.proofs.ReadLemmas.{read-answer}
+use Rattle.st_snap.proofs.LegalEvents.{legal-load}
+use Rattle.st_snap.proofs.HoldsLemmas.{holds-next}
+use Rattle.st_snap.proofs.StayLemmas.{cell-stays}
+use Rattle.st_snap.proofs.DriveLemmas.{driven-kind}

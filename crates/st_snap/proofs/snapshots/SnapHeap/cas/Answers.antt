@@ -1,0 +1,47 @@
+use Rattle.std.proofs.Common.{rules, ◌≡◌, ◌≢◌, ◌≤◌, length, ℕ, ◌+◌, ◌-◌, ◌*◌, ◌<◌, ◌==◌, Bool, true, false, List, [], ◌∷◌, ◌++◌, slice_get, slice_set, map, Option, Some, None, arith, cond, refl, ap, sym, subst, ◌∙◌, inl, inr, IsSome}
+use Rattle.st_events.specs.declared.events.Event.{Event}
+use Rattle.st_events.specs.declared.events.Event.TheVariants.{New, Load, Store, Cas, Launch, Retire}
+use Rattle.st_events.specs.Heap.{Heap, word_at, heap_of}
+use Rattle.st_events.specs.World.{World, world_after, next}
+use Rattle.st_events.specs.Legal.{is_word}
+use Rattle.st_snap.specs.Lanes.{lanes_after, is_idle, put_at}
+use Rattle.st_snap.specs.Snapshots.{Snapshots, HasSpare, heap_now, lanes_now, world_of, has_kind_of, are_args_of, active_now}
+use Rattle.st_snap.specs.Table.{TableLists, Changes}
+use Rattle.st_snap.specs.declared.lanes.Lane.{Lane}
+use Rattle.st_snap.specs.Represents.{Represents}
+use Rattle.st_snap.proofs.HoldsLemmas.{holds-first, holds-next, sound-now, epoch-small, cell-has-header, cell-is-small, represents-cas, cas-same-lanes}
+use Rattle.st_snap.proofs.LegalEvents.{legal-new, legal-load, legal-store, legal-cas, legal-launch, legal-retire}
+use Rattle.st_snap.proofs.RepresentsSteps.{represents-new, represents-launch, represents-retire}
+use Rattle.st_snap.proofs.RepresentsChange.{represents-change}
+use Rattle.st_snap.proofs.TableLemmas.{changed_same_lanes}
+use Rattle.st_snap.proofs.snapshots.SnapHeap.cas.Goals as goal
+
+pub change_where-done-requires-clause-small : goal.change_where-done-requires-clause-small
+change_where-done-requires-clause-small c = λ field some. cell-is-small c.self.inside.shape c.self.inside.sizes c.self.inside.table c.self.inside.journal c.args.obj field c.self.invariant some
+
+pub change_where-done-requires-clause-header : goal.change_where-done-requires-clause-header
+change_where-done-requires-clause-header c =
+    let cell = subst (λ (s : Snapshots). IsSome (word_at (heap_now s) c.args.obj c.args.field)) (sym c.self.view_is) c.requires.cell in
+    cell-has-header c.self.inside.shape c.self.inside.sizes c.self.inside.table c.self.inside.journal c.args.obj c.args.field c.self.invariant (subst (λ (heap : Heap). IsSome (word_at heap c.args.obj c.args.field)) (sym c.self.invariant.tables.live.heap) cell)
+
+pub invariant_of-self : goal.invariant_of-self
+invariant_of-self c =
+    let f = c.self.inside in
+    let w = world_after f.shape f.sizes f.journal.events in
+    let done = c.change_where-done.result in
+    let spare : HasSpare (record { shape = f.shape; sizes = f.sizes; journal = f.journal.events }) = subst (λ (s : Snapshots). HasSpare s) (sym c.self.view_is) c.requires.spare in
+    let thread : c.args.m < f.sizes.mutators = subst (λ (s : Snapshots). c.args.m < s.sizes.mutators) (sym c.self.view_is) c.requires.thread in
+    let cell = subst (λ (s : Snapshots). IsSome (word_at (heap_now s) c.args.obj c.args.field)) (sym c.self.view_is) c.requires.cell in
+    let expect = subst (λ (s : Snapshots). has_kind_of s c.args.obj c.args.field c.args.expect ≡ true) (sym c.self.view_is) c.requires.expect in
+    let kind = subst (λ (s : Snapshots). has_kind_of s c.args.obj c.args.field c.args.value ≡ true) (sym c.self.view_is) c.requires.kind in
+    let is = c.change_where-done.ensures.done ∙ ap (λ (heap : Heap). is_word (word_at heap c.args.obj c.args.field) c.args.expect) c.self.invariant.tables.live.heap in
+    holds-next f.shape f.sizes f.table c.change_where-done.new.self f.journal c.append.new.journal (Cas c.args.m c.args.obj c.args.field c.args.expect c.args.value done) c.self.invariant spare c.append.ensures.events c.append.ensures.spare
+    (legal-cas f.shape f.sizes w c.args.m c.args.obj c.args.field c.args.expect c.args.value done thread cell expect kind is)
+    (cas-same-lanes f.table c.change_where-done.new.self c.args.obj c.args.field c.args.value done c.change_where-done.ensures.changed)
+    (represents-cas f.shape f.sizes w f.table c.change_where-done.new.self c.args.m c.args.obj c.args.field c.args.expect c.args.value done (sound-now f.shape f.sizes f.table f.journal c.self.invariant) c.self.invariant.tables c.change_where-done.ensures.changed)
+
+pub returns-clause-legal : goal.returns-clause-legal
+returns-clause-legal c = (invariant_of-self c).legal
+
+pub returns-clause-lanes : goal.returns-clause-lanes
+returns-clause-lanes c = sym (invariant_of-self c).lanes ∙ cas-same-lanes c.self.inside.table c.change_where-done.new.self c.args.obj c.args.field c.args.value c.change_where-done.result c.change_where-done.ensures.changed ∙ c.self.invariant.lanes ∙ ap lanes_now c.self.view_is

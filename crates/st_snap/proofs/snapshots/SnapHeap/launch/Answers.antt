@@ -1,0 +1,78 @@
+use Rattle.std.proofs.Common.{rules, ◌≡◌, ◌≢◌, ◌≤◌, length, ℕ, ◌+◌, ◌-◌, ◌*◌, ◌<◌, ◌==◌, Bool, true, false, List, [], ◌∷◌, ◌++◌, slice_get, slice_set, map, Option, Some, None, arith, cond, refl, ap, sym, subst, ◌∙◌, inl, inr, IsSome}
+use Rattle.st_events.specs.declared.events.Event.{Event}
+use Rattle.st_events.specs.declared.events.Event.TheVariants.{New, Load, Store, Cas, Launch, Retire}
+use Rattle.st_events.specs.Heap.{Heap, word_at, heap_of}
+use Rattle.st_events.specs.World.{World, world_after, next}
+use Rattle.st_events.specs.Legal.{is_word}
+use Rattle.st_snap.specs.Lanes.{lanes_after, is_idle, put_at}
+use Rattle.st_snap.specs.Snapshots.{Snapshots, HasSpare, heap_now, lanes_now, world_of, has_kind_of, are_args_of, active_now}
+use Rattle.st_snap.specs.Table.{TableLists, Changes}
+use Rattle.st_snap.specs.declared.lanes.Lane.{Lane}
+use Rattle.st_snap.specs.Represents.{Represents}
+use Rattle.st_snap.proofs.HoldsLemmas.{holds-first, holds-next, sound-now, epoch-small, cell-has-header, cell-is-small, represents-cas, cas-same-lanes, lane-here, here-lane, launch-known}
+use Rattle.st_snap.proofs.LegalEvents.{legal-new, legal-load, legal-store, legal-cas, legal-launch, legal-retire}
+use Rattle.st_snap.proofs.RepresentsSteps.{represents-new, represents-launch, represents-retire}
+use Rattle.st_snap.proofs.RepresentsChange.{represents-change}
+use Rattle.st_snap.proofs.TableLemmas.{changed_same_lanes, made_same_lanes}
+use Rattle.st_snap.proofs.snapshots.SnapHeap.launch.Goals as goal
+use Rattle.st_events.specs.Legal.{args_fit}
+use Rattle.st_snap.specs.Snapshots.{IsLaneOf}
+use Rattle.st_snap.proofs.LaneLemmas.{first-idle, all-active, one-idle, set-same, set-other}
+use Rattle.std.proofs.lemmas.Option.{slice_get_within}
+
+pub launch-requires : goal.launch-requires
+launch-requires c = epoch-small c.self.inside.shape c.self.inside.sizes c.self.inside.table c.self.inside.journal c.self.invariant
+
+pub returns-in-None-clause-no_lane : goal.returns-in-None-clause-no_lane
+returns-in-None-clause-no_lane c =
+    let f = c.self.inside in
+    let all = all-active f.sizes (world_after f.shape f.sizes f.journal.events).active f.table.lanes c.self.invariant.tables.lanes c.in-None.ensures.0 in
+    (λ _. subst (λ (s : Snapshots). length (active_now s) ≡ s.sizes.lanes) c.self.view_is all, λ _. refl)
+
+pub invariant_of-self-2 : goal.invariant_of-self-2
+invariant_of-self-2 c =
+    let f = c.self.inside in
+    let w = world_after f.shape f.sizes f.journal.events in
+    let lane = c.in-Some.lane in
+    let spare : HasSpare (record { shape = f.shape; sizes = f.sizes; journal = f.journal.events }) = subst (λ (s : Snapshots). HasSpare s) (sym c.self.view_is) c.requires.spare in
+    let thread : c.args.m < f.sizes.mutators = subst (λ (s : Snapshots). c.args.m < s.sizes.mutators) (sym c.self.view_is) c.requires.thread in
+    let site = subst (λ (s : Snapshots). c.args.site < length s.shape.checks) (sym c.self.view_is) c.requires.site in
+    let args = subst (λ (s : Snapshots). are_args_of s c.args.site c.args.args ≡ true) (sym c.self.view_is) c.requires.args in
+    let number : lane.number ≡ w.epoch + 1 = c.in-Some.ensures.1 ∙ ap (λ (n : ℕ). n + 1) c.self.invariant.tables.live.epoch in
+    let free = one-idle f.sizes w.active f.table.lanes lane.index c.self.invariant.tables.lanes c.in-Some.ensures.0 in
+    let whole : c.launch.new.self ≡ record f.table { epoch = lane.number; lanes = slice_set f.table.lanes lane.index (Some lane.number) } = c.in-Some.ensures.2 ∙ ap (λ (n : ℕ). record f.table { epoch = n; lanes = slice_set f.table.lanes lane.index (Some n) }) (sym c.in-Some.ensures.1) in
+    holds-next f.shape f.sizes f.table c.launch.new.self f.journal c.append.new.journal (Launch c.args.m lane.number c.args.site c.args.args) c.self.invariant spare c.append.ensures.events c.append.ensures.spare
+    (legal-launch f.shape f.sizes w c.args.m lane.number c.args.site c.args.args thread number site args free)
+    (ap (λ (t : TableLists). t.lanes) whole ∙ ap (put_at lane.number f.table.lanes) (sym c.in-Some.ensures.0))
+    (subst (λ (t : TableLists). Represents f.sizes (next f.shape f.sizes w (Launch c.args.m lane.number c.args.site c.args.args)) t) (sym whole)
+    (represents-launch f.shape f.sizes w f.table c.args.m lane.number c.args.site lane.index c.args.args (sound-now f.shape f.sizes f.table f.journal c.self.invariant) number (first-idle f.table.lanes lane.index c.in-Some.ensures.0) c.self.invariant.tables))
+
+pub returns-clause-no_lane : goal.returns-clause-no_lane
+returns-clause-no_lane c =
+    let f = c.self.inside in
+    let free = one-idle f.sizes (world_after f.shape f.sizes f.journal.events).active f.table.lanes c.in-Some.lane.index c.self.invariant.tables.lanes c.in-Some.ensures.0 in
+    let fewer = subst (λ (s : Snapshots). length (active_now s) < s.sizes.lanes) c.self.view_is free in
+    (λ e. cc, λ e. absurd (omega (arith, fewer, e)))
+
+pub returns-clause-legal : goal.returns-clause-legal
+returns-clause-legal c = (invariant_of-self-2 c).legal
+
+-- the lanes afterwards
+lanes-are : (t after : TableLists) (lane : Lane) → lane.number ≡ t.epoch + 1 → after ≡ record t { epoch = t.epoch + 1; lanes = slice_set t.lanes lane.index (Some (t.epoch + 1)) } → after.lanes ≡ slice_set t.lanes lane.index (Some lane.number)
+lanes-are t after lane number whole = ap (λ (x : TableLists). x.lanes) whole ∙ ap (λ (n : ℕ). slice_set t.lanes lane.index (Some n)) (sym number)
+
+pub returns-clause-lane : goal.returns-clause-lane
+returns-clause-lane c =
+    let f = c.self.inside in
+    let lane = c.in-Some.lane in
+    let idle = first-idle f.table.lanes lane.index c.in-Some.ensures.0 in
+    here-lane f.shape f.sizes c.launch.new.self c.append.new.journal lane (invariant_of-self-2 c) (ap (λ (ls : List (Option ℕ)). slice_get ls lane.index) (lanes-are f.table c.launch.new.self lane c.in-Some.ensures.1 c.in-Some.ensures.2) ∙ set-same f.table.lanes lane.index (Some lane.number) (slice_get_within f.table.lanes lane.index None idle))
+
+pub returns-clause-others : goal.returns-clause-others
+returns-clause-others c = λ other is.
+    let f = c.self.inside in
+    let lane = c.in-Some.lane in
+    let idle = first-idle f.table.lanes lane.index c.in-Some.ensures.0 in
+    let here = lane-here f.shape f.sizes f.table f.journal other c.self.invariant (subst (λ (s : Snapshots). IsLaneOf s other) (sym c.self.view_is) is) in
+    let apart : other.index ≢ lane.index = λ e. (let both : Some (Some other.number) ≡ Some None = sym here ∙ ap (slice_get f.table.lanes) e ∙ idle in cc) in
+    here-lane f.shape f.sizes c.launch.new.self c.append.new.journal other (invariant_of-self-2 c) (ap (λ (ls : List (Option ℕ)). slice_get ls other.index) (lanes-are f.table c.launch.new.self lane c.in-Some.ensures.1 c.in-Some.ensures.2) ∙ set-other f.table.lanes lane.index (Some lane.number) other.index (slice_get_within f.table.lanes lane.index None idle) apart ∙ here)

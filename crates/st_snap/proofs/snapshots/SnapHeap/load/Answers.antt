@@ -1,0 +1,33 @@
+use Rattle.std.proofs.Common.{rules, ◌≡◌, ◌≢◌, ◌≤◌, length, ℕ, ◌+◌, ◌-◌, ◌*◌, ◌<◌, ◌==◌, Bool, true, false, List, [], ◌∷◌, ◌++◌, slice_get, slice_set, map, Option, Some, None, arith, cond, refl, ap, sym, subst, ◌∙◌, inl, inr, IsSome}
+use Rattle.st_events.specs.declared.events.Event.{Event}
+use Rattle.st_events.specs.declared.events.Event.TheVariants.{New, Load, Store, Cas, Launch, Retire}
+use Rattle.st_events.specs.Heap.{Heap, word_at, heap_of}
+use Rattle.st_events.specs.World.{World, world_after, next}
+use Rattle.st_events.specs.Legal.{is_word}
+use Rattle.st_snap.specs.Lanes.{lanes_after, is_idle, put_at}
+use Rattle.st_snap.specs.Snapshots.{Snapshots, HasSpare, heap_now, lanes_now, world_of, has_kind_of, are_args_of, active_now}
+use Rattle.st_snap.specs.Table.{TableLists, Changes}
+use Rattle.st_snap.specs.declared.lanes.Lane.{Lane}
+use Rattle.st_snap.specs.Represents.{Represents}
+use Rattle.st_snap.proofs.HoldsLemmas.{holds-first, holds-next, sound-now, epoch-small, cell-has-header, cell-is-small}
+use Rattle.st_snap.proofs.LegalEvents.{legal-new, legal-load, legal-store, legal-cas, legal-launch, legal-retire}
+use Rattle.st_snap.proofs.RepresentsSteps.{represents-new, represents-launch, represents-retire}
+use Rattle.st_snap.proofs.RepresentsChange.{represents-change}
+use Rattle.st_snap.proofs.TableLemmas.{changed_same_lanes}
+use Rattle.st_snap.proofs.snapshots.SnapHeap.load.Goals as goal
+
+pub invariant_of-self : goal.invariant_of-self
+invariant_of-self c =
+    let f = c.self.inside in
+    let h = c.self.invariant in
+    let spare : HasSpare (record { shape = f.shape; sizes = f.sizes; journal = f.journal.events }) = subst (λ (s : Snapshots). HasSpare s) (sym c.self.view_is) c.requires.spare in
+    let thread : c.args.m < f.sizes.mutators = subst (λ (s : Snapshots). c.args.m < s.sizes.mutators) (sym c.self.view_is) c.requires.thread in
+    let word = ap (λ (heap : Heap). word_at heap c.args.obj c.args.field) (sym c.self.invariant.tables.live.heap) ∙ c.load-value.ensures in
+    holds-next f.shape f.sizes f.table f.table f.journal c.append.new.journal (Load c.args.m c.args.obj c.args.field c.load-value.result) h spare c.append.ensures.events c.append.ensures.spare
+    (legal-load f.shape f.sizes (world_after f.shape f.sizes f.journal.events) c.args.m c.args.obj c.args.field c.load-value.result thread word) refl c.self.invariant.tables
+
+pub returns-clause-legal : goal.returns-clause-legal
+returns-clause-legal c = (invariant_of-self c).legal
+
+pub returns-clause-lanes : goal.returns-clause-lanes
+returns-clause-lanes c = sym (invariant_of-self c).lanes ∙ c.self.invariant.lanes ∙ ap lanes_now c.self.view_is

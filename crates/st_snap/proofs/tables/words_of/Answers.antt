@@ -1,0 +1,7 @@
+use Rattle.std.proofs.Common.{rules, ◌≡◌, ◌≢◌, ◌≤◌, length, ℕ, ◌+◌, ◌-◌, ◌*◌, ◌<◌, ◌==◌, Bool, true, false, nat_eq, nat_lt, List, [], ◌∷◌, ◌++◌, slice_index_or, slice_set, slice_get, replicate, Option, Some, None, take, arith, cond, refl, ap, sym, subst, ◌∙◌, inl, inr}
+use Rattle.std.specs.Option.{unwrap_or, IsSome}
+use Rattle.st_events.specs.declared.shapes.TheConstants.{MOST_FIELDS}
+use Rattle.st_snap.proofs.tables.words_of.Goals as goal
+
+pub returns : goal.returns
+returns c = λ field word e. c.loop-field.invariant.1 field (let small : field < MOST_FIELDS = c.requires field (rw e refl) in omega arith) ∙ ap (λ o. unwrap_or o 0) e

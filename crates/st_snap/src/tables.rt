@@ -1,0 +1,193 @@
+//! What a snapshot heap keeps beside its journal: the live heap, an object's header, the lanes and the pool of copies.
+ghost use Rattle.std.specs.Prelude.{◌≡◌, ◌≢◌, ℕ, ◌+◌, ◌-◌, ◌*◌, ◌^◌, ◌<◌, ◌≤◌, length, slice_get, slice_index, Some, IfOk, IsSome};
+ghost use Rattle.st_events.specs.Heap.{heap_of, word_at};
+ghost use Rattle.st_events.specs.Legal.{is_word};
+ghost use Rattle.st_events.specs.Shape.{IsWithinLimits};
+ghost use Rattle.st_events.specs.Sizes.{AreWithinLimits};
+
+use crate::headers::{Forward, Header, LANES, Target};
+use crate::lanes::{Lane, first_idle, some_between};
+use crate::pools::{Pool, Words};
+use st_events::{FIRST_OF_REGIONS, HeapMap, MOST_FIELDS, NoMemory, Shape, Sizes};
+use std::alloc::Global;
+use std::marker::Model;
+
+/// The live heap and what the active checks need of older ones. Contracts see it as lists.
+#[derive(Debug, Drop)]
+pub(crate) struct Table {
+    pub heap: HeapMap,
+    /// By object.
+    pub headers: Vec<Header>,
+    /// How many objects each mutator has made.
+    pub made: Vec<u32>,
+    /// How many checks were launched.
+    pub epoch: u32,
+    /// The number of the check at each lane, where one is.
+    pub lanes: Vec<Option<u32>>,
+    pub pool: Pool,
+}
+
+impl Model for Table {
+    ghost use Rattle.st_snap.specs.Table.{TableLists};
+
+    ghost Value = { TableLists };
+
+    ghost view = { λ t. record { heap = t.heap; headers = t.headers.items; made = t.made.items; epoch = t.epoch; lanes = t.lanes.items; pool = t.pool } };
+}
+
+impl Table {
+    ghost use Rattle.st_snap.specs.Table.{IsFirst, Makes, KeepsVersion, Changes, ChangesWhere, Launches, retired_at, Reads, AreCopies, HasWords, object_room};
+
+    /// Before the first event.
+    pub fn make(alloc: Global, shape: &Shape, sizes: &Sizes) -> Result<Table, NoMemory>
+        requires shape { IsWithinLimits shape.now }
+        requires sizes { AreWithinLimits sizes.now }
+        ensures { IfOk result (IsFirst shape.now sizes.now) }
+    {
+        let objects = FIRST_OF_REGIONS + sizes.mutators as usize * sizes.objects as usize;
+        Ok(Table {
+            heap: HeapMap::make(alloc, shape, sizes)?,
+            headers: vec![in alloc; Header::UNTOUCHED; objects]?,
+            made: vec![in alloc; 0; sizes.mutators as usize]?,
+            epoch: 0,
+            lanes: vec![in alloc; None; sizes.lanes as usize]?,
+            pool: Pool::make(alloc, sizes.copies)?,
+        })
+    }
+
+    /// Makes the next object of a mutator's region, and tells its number.
+    pub fn make_object(&mut self, shape: &Shape, objects: u32, m: u8, class: u8) -> u32
+        requires shape { IsWithinLimits shape.now }
+        requires thread { m < length self.old.made }
+        requires heap { FIRST_OF_REGIONS + m * objects + slice_index self.old.made m < length self.old.heap }
+        requires headers { length self.old.headers ≡ length self.old.heap }
+        requires fits { length self.old.heap < 2 ^ 32 }
+        ensures { Makes shape.now objects self.old self.new m class result }
+    {
+        let count = self.made[m as usize];
+        let obj = FIRST_OF_REGIONS as u32 + m as u32 * objects + count;
+        self.made[m as usize] = count + 1;
+        self.heap.put_new(shape, obj, class);
+        self.headers[obj as usize].stamp = self.epoch;
+        obj
+    }
+
+    /// How many objects a mutator has made.
+    pub fn made_by(&self, m: u8) -> u32
+        requires { m < length self.now.made }
+        ensures { slice_get self.now.made m ≡ Some result }
+    {
+        self.made[m as usize]
+    }
+
+    /// The word of the live heap.
+    pub fn load(&self, obj: u32, field: u8) -> u64
+        requires { IsSome (word_at (heap_of self.now.heap) obj field) }
+        ensures { word_at (heap_of self.now.heap) obj field ≡ Some result }
+    {
+        self.heap.get(obj, field).unwrap()
+    }
+
+    /// Sets a word, once the old version is kept for the checks that need it.
+    pub fn change(&mut self, obj: u32, field: u8, value: u64)
+        requires cell { IsSome (word_at (heap_of self.old.heap) obj field) }
+        requires small { (f : ℕ) → IsSome (word_at (heap_of self.old.heap) obj f) → f < MOST_FIELDS }
+        requires header { obj < length self.old.headers }
+        requires lanes { length self.old.lanes ≤ LANES }
+        ensures { Changes self.old self.new obj field value }
+    {
+        self.keep_version(obj);
+        self.headers[obj as usize].stamp = self.epoch;
+        self.heap.set(obj, field, value);
+    }
+
+    /// Sets a word where it is `expect`, and tells whether it was.
+    pub fn change_where(&mut self, obj: u32, field: u8, expect: u64, value: u64) -> bool
+        requires cell { IsSome (word_at (heap_of self.old.heap) obj field) }
+        requires small { (f : ℕ) → IsSome (word_at (heap_of self.old.heap) obj f) → f < MOST_FIELDS }
+        requires header { obj < length self.old.headers }
+        requires lanes { length self.old.lanes ≤ LANES }
+        ensures done { result ≡ is_word (word_at (heap_of self.old.heap) obj field) expect }
+        ensures changed { ChangesWhere result self.old self.new obj field value }
+    {
+        if self.load(obj, field) != expect {
+            return false;
+        }
+        self.change(obj, field, value);
+        true
+    }
+
+    /// Keeps the version of the object for each active check that was launched after its stamp, in one copy for all of
+    /// them, and sends these checks to it. The forwarding words come before the change of the field, so that no check
+    /// reads a new word.
+    fn keep_version(&mut self, obj: u32)
+        requires small { (f : ℕ) → IsSome (word_at (heap_of self.old.heap) obj f) → f < MOST_FIELDS }
+        requires header { obj < length self.old.headers }
+        requires lanes { length self.old.lanes ≤ LANES }
+        ensures { KeepsVersion self.old self.new obj }
+    {
+        let stamp = self.headers[obj as usize].stamp;
+        if some_between(&self.lanes, stamp, self.epoch) {
+            let words = words_of(&self.heap, obj);
+            let target = self.pool.keep(obj, stamp, self.epoch, words);
+            self.headers[obj as usize].forward_to(&self.lanes, target);
+        }
+    }
+
+    /// Gives the next check the first idle lane, if there is one.
+    pub fn launch(&mut self) -> Option<Lane>
+        requires { self.old.epoch < 2 ^ 32 - 1 }
+        ensures { Launches self.old self.new result }
+    {
+        let index = match first_idle(&self.lanes) {
+            Some(index) => index,
+            None => return None,
+        };
+        self.epoch += 1;
+        self.lanes[index] = Some(self.epoch);
+        Some(Lane {
+            number: self.epoch,
+            index,
+        })
+    }
+
+    /// Takes a check off its lane, and gives back each copy that no other check reads.
+    pub fn retire(&mut self, index: usize)
+        requires { index < length self.old.lanes }
+        ensures { self.new ≡ retired_at self.old index }
+    {
+        self.lanes[index] = None;
+        self.pool.release(&self.lanes);
+    }
+
+    /// The word that a check reads, unless its version is gone.
+    pub fn read(&self, lane: &Lane, obj: u32, field: u8) -> Option<u64>
+        requires lane { lane.now.index < LANES }
+        requires header { obj < length self.now.headers }
+        requires field { field < MOST_FIELDS }
+        requires copies { AreCopies self.now lane.now obj }
+        ensures { Reads self.now lane.now obj field result }
+    {
+        let live = self.heap.get(obj, field);
+        let Forward { epoch, target } = self.headers[obj as usize].forward[lane.index];
+        if epoch != lane.number {
+            return live;
+        }
+        match target {
+            Target::Copied(copy) => Some(self.pool.word(copy, field)),
+            Target::Gone => None,
+        }
+    }
+}
+
+/// The words of an object as they stand.
+fn words_of(heap: &HeapMap, obj: u32) -> Words
+    requires { (f : ℕ) → IsSome (word_at (heap_of heap.now) obj f) → f < MOST_FIELDS }
+    ensures { (field word : ℕ) → word_at (heap_of heap.now) obj field ≡ Some word → slice_index result field ≡ word }
+{
+    let mut words = [0; MOST_FIELDS];
+    for field in 0..MOST_FIELDS {
+        words[field] = heap.get(obj, field as u8).unwrap_or(0);
+    }
+    words
+}

@@ -1,0 +1,283 @@
+//! Worked rows of the snapshot heap, on heaps whose fields are all numbers.
+ghost use Rattle.std.specs.Prelude.{◌≡◌, ◌==◌, IfOk};
+ghost use Rattle.std.specs.List.{list_any};
+ghost use Rattle.st_snap.specs.Drive.{plain_shape, CanAct};
+
+use crate::{Lane, SnapHeap};
+use st_events::{Args, Kind, Lost, NoMemory, Shape, Sizes};
+use std::alloc::Global;
+use std::marker::Model;
+use std::test::Fail;
+
+const NO_ARGS: Args = Args {
+    count: 0,
+    words: [0; 4],
+};
+
+/// The heap under test can't be asked for this: the test has a wrong number, or room or memory is out.
+#[derive(Clone, Copy, Debug)]
+struct Refused;
+
+impl From<NoMemory> for Refused {
+    fn from(_no_memory: NoMemory) -> Refused {
+        Refused
+    }
+}
+
+/// A heap with the objects and the checks that a test knows of, each by the order in which it came.
+#[derive(Drop)]
+struct Driven {
+    heap: SnapHeap,
+    sizes: Sizes,
+    width: u8,
+    /// Each object and how many fields it has; the shared object comes first.
+    objects: Vec<(u32, u8)>,
+    checks: Vec<Lane>,
+}
+
+impl Model for Driven {
+    ghost use Rattle.st_snap.specs.Snapshots.{Snapshots};
+
+    ghost Value = { Snapshots };
+
+    ghost use Rattle.st_snap.specs.Drive.{IsDriven};
+
+    ghost view = { λ d. d.heap };
+
+    ghost invariant = { λ d. IsDriven d.heap d.sizes d.width d.objects.items d.checks.items };
+}
+
+/// One shared number, a class 1 of so many numbers, and one check without arguments.
+fn shape_of(alloc: Global, width: u8) -> Result<Shape, NoMemory>
+    ensures { IfOk result (λ shape. shape ≡ plain_shape width) }
+{
+    let mut classes = Vec::new(alloc);
+    classes.push(vec![in alloc; Kind::Int; 1]?)?;
+    classes.push(vec![in alloc; Kind::Int; width as usize]?)?;
+    let mut checks = Vec::new(alloc);
+    checks.push(Vec::new(alloc))?;
+    Ok(Shape { classes, checks })
+}
+
+impl Driven {
+    fn make(alloc: Global, width: u8, sizes: Sizes) -> Result<Driven, Refused> {
+        let shape = shape_of(alloc, width)?;
+        if !shape.fits() || !sizes.fits() {
+            return Err(Refused);
+        }
+        let heap = SnapHeap::make(alloc, &shape, &sizes)?;
+        let objects = match Vec::from_slice(alloc, &[(1, 1)]) {
+            Ok(objects) => objects,
+            Err(_) => return Err(Refused),
+        };
+        Ok(Driven {
+            heap,
+            sizes,
+            width,
+            objects,
+            checks: Vec::new(alloc),
+        })
+    }
+
+    /// The number of an object, where the mutator can act on this field of it.
+    fn cell(&self, m: u8, object: usize, field: u8) -> Result<u32, Refused>
+        ensures { IfOk result (λ obj. CanAct self.now m obj field) }
+    {
+        if object >= self.objects.len() {
+            return Err(Refused);
+        }
+        let (obj, fields) = self.objects[object];
+        if m >= self.sizes.mutators || field >= fields || self.heap.spare() == 0 {
+            return Err(Refused);
+        }
+        Ok(obj)
+    }
+
+    /// Makes an object where no check is active.
+    fn new(&mut self, m: u8) -> Result<u32, Refused> {
+        if m >= self.sizes.mutators || self.heap.spare() == 0 || self.heap.room(m) == 0 {
+            return Err(Refused);
+        }
+        if !self.checks.is_empty() {
+            return Err(Refused);
+        }
+        let obj = self.heap.new(m, 1);
+        match self.objects.push((obj, self.width)) {
+            Ok(()) => Ok(obj),
+            Err(_) => Err(Refused),
+        }
+    }
+
+    fn load(&mut self, m: u8, object: usize, field: u8) -> Result<u64, Refused> {
+        let obj = self.cell(m, object, field)?;
+        Ok(self.heap.load(m, obj, field))
+    }
+
+    fn store(&mut self, m: u8, object: usize, field: u8, value: u64) -> Result<(), Refused> {
+        let obj = self.cell(m, object, field)?;
+        self.heap.store(m, obj, field, value);
+        Ok(())
+    }
+
+    fn cas(
+        &mut self,
+        m: u8,
+        object: usize,
+        field: u8,
+        expect: u64,
+        value: u64,
+    ) -> Result<bool, Refused> {
+        let obj = self.cell(m, object, field)?;
+        Ok(self.heap.cas(m, obj, field, expect, value))
+    }
+
+    /// The number of the launched check; None where every lane is active.
+    fn launch(&mut self, m: u8) -> Result<Option<u32>, Refused> {
+        if m >= self.sizes.mutators || self.heap.spare() == 0 {
+            return Err(Refused);
+        }
+        let lane = match self.heap.launch(m, 0, NO_ARGS) {
+            Ok(lane) => lane,
+            Err(_) => return Ok(None),
+        };
+        let number = lane.number();
+        match self.checks.push(lane) {
+            Ok(()) => Ok(Some(number)),
+            Err(_) => Err(Refused),
+        }
+    }
+
+    fn read(&self, check: usize, object: usize, field: u8) -> Result<Result<u64, Lost>, Refused> {
+        if check >= self.checks.len() || object >= self.objects.len() {
+            return Err(Refused);
+        }
+        let (obj, fields) = self.objects[object];
+        if field >= fields {
+            return Err(Refused);
+        }
+        Ok(self.heap.read(&self.checks[check], obj, field))
+    }
+
+    /// Retires a check; those that came after it move up.
+    fn retire(&mut self, m: u8, check: usize) -> Result<(), Refused> {
+        if check >= self.checks.len() || m > self.sizes.mutators || self.heap.spare() == 0 {
+            return Err(Refused);
+        }
+        let lane = self.checks.remove(check);
+        if holds_number(self.checks.as_slice(), lane.number()) {
+            return Err(Refused);
+        }
+        self.heap.retire(m, lane);
+        Ok(())
+    }
+}
+
+/// Whether one of the checks has this number.
+fn holds_number(checks: &[Lane], number: u32) -> bool
+    ensures { result ≡ list_any (λ lane. lane.number == number) checks.now }
+{
+    checks.iter().any(|lane| lane.number() == number)
+}
+
+fn small(copies: u32) -> Sizes {
+    Sizes {
+        mutators: 1,
+        lanes: 2,
+        objects: 4,
+        copies,
+        events: 100,
+        calls: 10,
+    }
+}
+
+#[test]
+fn two_checks_share_one_copy(rt: HostRuntime) -> Result<(), Fail> {
+    let mut heap = Driven::make(rt.alloc(), 0, small(4))?;
+    assert_eq!(rt; heap.launch(0)?, Some(1));
+    assert_eq!(rt; heap.launch(0)?, Some(2));
+    assert_eq!(rt; heap.heap.idle(), 0);
+    heap.store(0, 0, 0, 5)?;
+    assert_eq!(rt; heap.heap.free(), 3);
+    assert_eq!(rt; heap.read(0, 0, 0)?, Ok(0));
+    assert_eq!(rt; heap.read(1, 0, 0)?, Ok(0));
+    assert_eq!(rt; heap.load(0, 0, 0)?, 5);
+    heap.retire(0, 0)?;
+    assert_eq!(rt; heap.heap.free(), 3);
+    heap.retire(0, 0)?;
+    assert_eq!(rt; heap.heap.free(), 4);
+    Ok(())
+}
+
+#[test]
+fn each_check_reads_its_own_version(rt: HostRuntime) -> Result<(), Fail> {
+    let mut heap = Driven::make(rt.alloc(), 0, small(4))?;
+    assert_eq!(rt; heap.launch(0)?, Some(1));
+    assert!(rt; heap.cas(0, 0, 0, 0, 5)?);
+    assert_eq!(rt; heap.launch(0)?, Some(2));
+    heap.store(0, 0, 0, 6)?;
+    assert!(rt; !heap.cas(0, 0, 0, 5, 7)?);
+    assert_eq!(rt; heap.heap.free(), 2);
+    assert_eq!(rt; heap.read(0, 0, 0)?, Ok(0));
+    assert_eq!(rt; heap.read(1, 0, 0)?, Ok(5));
+    assert_eq!(rt; heap.load(0, 0, 0)?, 6);
+    assert_eq!(rt; heap.launch(0)?, None);
+    Ok(())
+}
+
+#[test]
+fn a_full_pool_loses_a_version(rt: HostRuntime) -> Result<(), Fail> {
+    let mut heap = Driven::make(rt.alloc(), 1, small(1))?;
+    assert_eq!(rt; heap.new(0)?, 2);
+    assert_eq!(rt; heap.launch(0)?, Some(1));
+    heap.store(0, 0, 0, 5)?;
+    heap.store(0, 1, 0, 6)?;
+    assert_eq!(rt; heap.read(0, 0, 0)?, Ok(0));
+    assert_eq!(rt; heap.read(0, 1, 0)?, Err(Lost { obj: 2 }));
+    assert_eq!(rt; heap.heap.free(), 0);
+    heap.retire(0, 0)?;
+    assert_eq!(rt; heap.heap.free(), 1);
+    Ok(())
+}
+
+#[test]
+fn long_runs_take_no_longer_for_each_step(rt: HostRuntime) -> Result<(), Fail> {
+    let sizes = Sizes {
+        mutators: 8,
+        lanes: 1,
+        objects: 16_384,
+        copies: 4,
+        events: 131_072,
+        calls: 10,
+    };
+    let mut heap = Driven::make(rt.alloc(), 12, sizes)?;
+    for m in 0..8 {
+        for _ in 0..16_384 {
+            heap.new(m)?;
+        }
+    }
+    for k in 1..200_001 {
+        assert!(rt; heap.launch(0)?.is_some());
+        heap.store(0, 1, 0, k)?;
+        assert_eq!(rt; heap.read(0, 1, 0)?, Ok(k - 1));
+        assert_eq!(rt; heap.heap.free(), 3);
+        heap.retire(0, 0)?;
+        assert_eq!(rt; heap.heap.free(), 4);
+    }
+    assert!(rt; heap.launch(0)?.is_some());
+    for k in 1..300_001 {
+        heap.store(0, 1, 1, k)?;
+    }
+    for _ in 0..300_000 {
+        assert_eq!(rt; heap.read(0, 131_072, 0)?, Ok(0));
+    }
+    assert_eq!(rt; heap.heap.free(), 3);
+    let Driven {
+        heap,
+        sizes: _,
+        width: _,
+        objects: _,
+        checks: _,
+    } = heap;
+    assert_eq!(rt; heap.into_journal().len(), 1_031_073);
+    Ok(())
+}
