@@ -1,9 +1,9 @@
 -- Tests over lists: some element that passes, and what passes
-use Rattle.std.proofs.Common.{◌≡◌, ◌≢◌, ℕ, zero, suc, ◌+◌, ◌<◌, ◌≤◌, ◌==◌, cond, not, Bool, true, false, ◌⊎◌, inl, inr, List, [], ◌∷◌, ◌++◌, length, slice_get, map, Option, Some, None, refl, sym, ◌∙◌, ap, subst, arith, filter}
-use Rattle.std.specs.Prelude.{◌||◌, ◌&&◌}
-use Rattle.std.specs.List.{list_any, Contains, slice_index_or}
+use Rattle.std.proofs.Common.{◌≡◌, ℕ, zero, suc, ◌+◌, ◌==◌, cond, not, Bool, true, false, inl, inr, List, [], ◌∷◌, length, slice_get, Some, refl, sym, ◌∙◌, ap, arith, filter}
+use Rattle.std.specs.Prelude.{◌||◌}
+use Rattle.std.specs.List.{list_any}
 use Rattle.std.proofs.lemmas.Bool.Decides.{eqb_tells}
-use Rattle.st_events.specs.World.{Row, is_among, without, row_if_needed}
+use Rattle.st_events.specs.World.{is_among, without, row_if_needed}
 use Rattle.st_events.specs.Sound.{IsRising}
 use Rattle.st_events.proofs.AmongLemmas.{or_cases, or_first, or_second, same_number, same_numbers}
 

@@ -1,9 +1,8 @@
 -- The tests' heaps over one more event
-use Rattle.std.proofs.Common.{◌≡◌, ◌≢◌, ℕ, zero, suc, ◌+◌, ◌<◌, ◌≤◌, Bool, true, false, List, [], ◌∷◌, ◌++◌, length, map, replicate, slice_get, Option, Some, None, refl, sym, ◌∙◌, ap, subst, arith, IsSome, take, drop, get_or, cond, ◌==◌}
+use Rattle.std.proofs.Common.{◌≡◌, ◌≢◌, ℕ, zero, suc, ◌<◌, Bool, true, false, List, [], ◌∷◌, ◌++◌, length, map, replicate, slice_get, Option, Some, None, refl, sym, ap, subst, arith, IsSome, take, drop, get_or, cond, ◌==◌}
 use Rattle.std.specs.List.{All, remove, list_any}
 use Rattle.std.proofs.lemmas.List.Folds.{list_any_at}
 use Rattle.st_events.proofs.AmongLemmas.{same_number}
-use Rattle.std.specs.Option.{unwrap_or}
 use Rattle.std.proofs.lemmas.List.{length-map, length-replicate}
 use Rattle.std.proofs.lemmas.List.Elements.{All-weaker, All-push, All-append, All-take, All-drop, All-nil}
 use Rattle.std.proofs.lemmas.Option.{slice_get-get_or}
@@ -14,8 +13,8 @@ use Rattle.st_events.specs.declared.limits.Sizes.{Sizes}
 use Rattle.st_events.specs.declared.shapes.Kind.{Kind}
 use Rattle.st_events.specs.declared.shapes.Kind.TheVariants.{Int}
 use Rattle.st_events.specs.Shape.{ShapeLists, IsWithinLimits, kinds_of}
-use Rattle.st_events.specs.Heap.{Heap, Object, word_of, word_at, class_at, fresh, first_heap}
-use Rattle.st_events.specs.World.{World, next}
+use Rattle.st_events.specs.Heap.{Heap, Object, word_of, word_at, fresh}
+use Rattle.st_events.specs.World.{World}
 use Rattle.st_events.specs.Legal.{fits_cell, kind_of, has_kind_if_any, args_fit}
 use Rattle.st_events.specs.Sound.{IsTypedHeap}
 use Rattle.st_events.proofs.WorldLemmas.{world_after-snoc, at-same}
@@ -23,7 +22,7 @@ use Rattle.st_events.proofs.LegalLemmas.{IsLegal-empty}
 use Rattle.st_events.proofs.SoundHeap.{with_object-same}
 use Rattle.st_events.proofs.SoundLemmas.{sound_after}
 use Rattle.st_snap.specs.declared.lanes.Lane.{Lane}
-use Rattle.st_snap.specs.Snapshots.{Snapshots, world_of, heap_now, new_heap, with_event, IsLegalHeap, IsLaneOf, HasCell, HadCell, has_kind_of, are_args_of, word_then}
+use Rattle.st_snap.specs.Snapshots.{Snapshots, world_of, heap_now, new_heap, with_event, IsLegalHeap, IsLaneOf, HasCell, has_kind_of, are_args_of, word_then}
 use Rattle.st_snap.specs.Drive.{IsDriven, IsDrivenLane, HasCells, HadCells, plain_shape}
 use Rattle.st_snap.proofs.ListLemmas.{slice_get-replicate}
 use Rattle.st_snap.proofs.StayLemmas.{cell-stays, past-stays}

@@ -1,9 +1,9 @@
 -- The lanes and the active checks
-use Rattle.std.proofs.Common.{◌≡◌, ◌≢◌, ℕ, zero, suc, ◌+◌, ◌<◌, ◌≤◌, ◌==◌, cond, not, Bool, true, false, ◌⊎◌, inl, inr, List, [], ◌∷◌, ◌++◌, length, slice_get, slice_set, map, Option, Some, None, refl, sym, ◌∙◌, ap, subst, arith, filter, nat_lt, nat_le, length-append, get_or, get_or-set_same, get_or-set_other, replicate}
-use Rattle.std.specs.Prelude.{◌||◌, ◌&&◌, position}
-use Rattle.std.specs.List.{list_any, count_by, sum_by, position_or_len}
+use Rattle.std.proofs.Common.{◌≡◌, ◌≢◌, ℕ, zero, suc, ◌+◌, ◌<◌, ◌≤◌, ◌==◌, cond, Bool, true, false, inl, inr, List, [], ◌∷◌, ◌++◌, length, slice_get, slice_set, map, Option, Some, None, refl, sym, ◌∙◌, ap, subst, arith, length-append, get_or}
+use Rattle.std.specs.Prelude.{position}
+use Rattle.std.specs.List.{list_any, count_by}
 use Rattle.std.proofs.lemmas.List.{length-set}
-use Rattle.std.proofs.lemmas.List.Sums.{sum_by-set, sum_by-cons, position_or_len_is}
+use Rattle.std.proofs.lemmas.List.Sums.{sum_by-set, sum_by-cons}
 use Rattle.std.proofs.lemmas.List.Quantifiers.{position-Some}
 use Rattle.std.proofs.lemmas.Option.{slice_get-get_or, slice_get_within, get_or_from_slice_get}
 use Rattle.std.proofs.lemmas.Bool.Decides.{eqb_tells}
@@ -13,8 +13,8 @@ use Rattle.st_events.specs.declared.limits.Sizes.{Sizes}
 use Rattle.st_events.specs.World.{is_among, without}
 use Rattle.st_events.specs.Sound.{IsRising}
 use Rattle.st_events.proofs.HeapLemmas.{slice_get-set}
-use Rattle.st_events.proofs.AmongLemmas.{or_cases, or_first, or_second, same_number, same_numbers, is_among-snoc, is_among-front, is_among-back, is_among-without, without-is_among}
-use Rattle.st_snap.specs.Lanes.{is_idle, has_check, is_within, is_between, cleared}
+use Rattle.st_events.proofs.AmongLemmas.{or_first, same_number, is_among-snoc, is_among-front, is_among-back, is_among-without, without-is_among}
+use Rattle.st_snap.specs.Lanes.{is_idle, is_within, is_between, cleared}
 use Rattle.st_snap.specs.Represents.{AreLanes}
 use Rattle.st_snap.proofs.AnyLemmas.{bool_same, any_found, found_any, among_any, any_among, length-without}
 

@@ -1,5 +1,5 @@
 -- Lists in which one element changes
-use Rattle.std.proofs.Common.{◌≡◌, ◌≢◌, ℕ, zero, suc, ◌+◌, ◌<◌, List, [], ◌∷◌, length, replicate, get_or, set, slice_get, Option, Some, None, refl, ap, sym, ◌∙◌, arith}
+use Rattle.std.proofs.Common.{◌≡◌, ◌≢◌, ℕ, zero, suc, ◌<◌, List, [], ◌∷◌, length, replicate, get_or, set, slice_get, Some, refl, ap, sym, arith}
 use Rattle.std.specs.Option.{option_map}
 use Rattle.st_snap.specs.Table.{adjust}
 

@@ -1,16 +1,15 @@
 -- The pool's lists: a copy is free or holds one version
-use Rattle.std.proofs.Common.{◌≡◌, ◌≢◌, ℕ, zero, suc, ◌+◌, ◌==◌, ◌<◌, ◌≤◌, nat_lt, not, cond, Bool, true, false, List, [], ◌∷◌, ◌++◌, length, map, filter, take, get_or, set, append_assoc, append-nil, slice_get, Some, refl, ap, sym, subst, ◌∙◌, inl, inr, arith, length-append}
+use Rattle.std.proofs.Common.{◌≡◌, ℕ, ◌+◌, ◌==◌, ◌<◌, ◌≤◌, nat_lt, not, cond, Bool, true, false, List, [], ◌∷◌, ◌++◌, length, map, filter, take, get_or, set, append_assoc, append-nil, refl, ap, sym, ◌∙◌, inl, inr, arith, length-append}
 use Rattle.std.proofs.lemmas.List.Filters.{length-filter_both, sum_by-filter_both}
-use Rattle.std.specs.List.{count_by, sum_by, Contains, All}
+use Rattle.std.specs.List.{count_by, Contains}
 use Rattle.std.proofs.lemmas.List.{get_or-set_same, get_or-set_other, length-map, map-append}
 use Rattle.std.proofs.lemmas.List.Sums.{sum_by-cons, sum_by-append, sum_by_push}
 use Rattle.std.proofs.lemmas.List.Elements.{All-map, All-contains, filter_more}
 use Rattle.std.proofs.lemmas.Bool.Decides.{eqb_tells}
-use Rattle.std.proofs.lemmas.Option.{slice_get-get_or}
 use Rattle.st_events.proofs.LegalLemmas.{is_below}
 use Rattle.st_snap.specs.declared.pools.Version.{Version}
-use Rattle.st_snap.specs.Pool.{KeptVersion, kept_in}
-use Rattle.st_snap.specs.PoolLists.{kept_of, versions_of, uses, IsPool}
+use Rattle.st_snap.specs.Pool.{KeptVersion}
+use Rattle.st_snap.specs.PoolLists.{kept_of, uses}
 
 -- a copy that is taken from the free ones, and holds a version then
 pub uses-keep : (free rest : List ℕ) (kept : List Version) (version : Version) (k : ℕ) → free ≡ rest ++ version.copy ∷ [] → uses rest (kept ++ version ∷ []) k ≡ uses free kept k

@@ -1,6 +1,5 @@
 -- A read gives the word of the heap at the launch, or tells that the version is lost
-use Rattle.std.proofs.Common.{◌≡◌, ◌≢◌, ℕ, ◌+◌, ◌<◌, ◌≤◌, ◌⊎◌, Bool, true, false, inl, inr, List, length, slice_get, slice_index, Option, Some, None, refl, sym, ◌∙◌, ap, subst, arith, IsSome}
-use Rattle.std.specs.List.{Contains}
+use Rattle.std.proofs.Common.{◌≡◌, ℕ, ◌<◌, ◌≤◌, ◌⊎◌, Bool, true, false, inl, inr, List, length, slice_get, slice_index, Option, Some, None, refl, sym, ◌∙◌, ap, subst, arith, IsSome}
 use Rattle.std.specs.Option.{option_flatten}
 use Rattle.std.proofs.lemmas.Bool.Decides.{eqb_tells}
 use Rattle.std.proofs.lemmas.Option.{slice_get_within}
@@ -8,20 +7,19 @@ use Rattle.st_events.specs.declared.events.Event.{Event}
 use Rattle.st_events.specs.declared.events.Event.TheVariants.{New, Load, Store, Cas, Launch, Retire}
 use Rattle.st_events.specs.declared.limits.Sizes.{Sizes}
 use Rattle.st_events.specs.declared.shapes.TheConstants.{MOST_FIELDS}
-use Rattle.st_events.specs.Shape.{ShapeLists, IsWithinLimits, kinds_of}
+use Rattle.st_events.specs.Shape.{ShapeLists, IsWithinLimits}
 use Rattle.st_events.specs.Heap.{Heap, Object, heap_of, word_of, word_at}
-use Rattle.st_events.specs.World.{World, Launched, next, first_world, world_after, at, is_lost}
+use Rattle.st_events.specs.World.{World, Launched, next, world_after, is_lost}
 use Rattle.st_events.specs.Legal.{IsLegal, IsLegalNext}
 use Rattle.st_events.specs.Sound.{IsSound, IsTypedHeap}
 use Rattle.st_events.proofs.HeapLemmas.{length-kinds_of}
 use Rattle.st_events.proofs.LegalLemmas.{stays}
 use Rattle.st_events.proofs.SoundLemmas.{sound-first, sound-next}
-use Rattle.st_snap.specs.declared.headers.Forward.{Forward}
 use Rattle.st_snap.specs.declared.headers.Target.{Target}
 use Rattle.st_snap.specs.declared.headers.Target.TheVariants.{Copied, Gone}
 use Rattle.st_snap.specs.declared.lanes.Lane.{Lane}
 use Rattle.st_snap.specs.Table.{TableLists, Reads, AnswersAt, AreCopies, HasWords}
-use Rattle.st_snap.specs.Represents.{Represents, IsForwardAt, IsTargetOf}
+use Rattle.st_snap.specs.Represents.{Represents, IsTargetOf}
 
 -- ---- no object has more words than there may be fields
 

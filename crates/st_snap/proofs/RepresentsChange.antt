@@ -1,5 +1,5 @@
 -- The tables go on meaning the world: a change
-use Rattle.std.proofs.Common.{◌≡◌, ◌≢◌, ℕ, zero, suc, ◌+◌, ◌<◌, ◌≤◌, ◌==◌, ◌⊎◌, cond, Bool, true, false, inl, inr, List, [], ◌∷◌, ◌++◌, length, map, filter, slice_get, Option, Some, None, refl, sym, ◌∙◌, ap, subst, arith, IsSome, append-nil, nat_lt}
+use Rattle.std.proofs.Common.{◌≡◌, ◌≢◌, ℕ, ◌<◌, ◌≤◌, cond, Bool, true, false, inl, inr, List, [], ◌∷◌, ◌++◌, length, map, slice_get, Option, Some, refl, sym, ◌∙◌, ap, subst, arith, IsSome, append-nil, nat_lt}
 use Rattle.std.specs.List.{list_any, All, Contains}
 use Rattle.std.proofs.lemmas.List.{length-map, map-append}
 use Rattle.std.proofs.lemmas.List.Elements.{All-push, Contains-append_left, Contains-push}
@@ -7,8 +7,8 @@ use Rattle.std.proofs.lemmas.Bool.Decides.{eqb_tells, nat_tests}
 use Rattle.st_events.specs.declared.limits.Sizes.{Sizes}
 use Rattle.st_events.specs.Shape.{ShapeLists}
 use Rattle.st_events.specs.Heap.{Heap, Object, heap_of, with_word}
-use Rattle.st_events.specs.World.{World, Launched, Pair, Row, changed, at, is_among, is_lost, is_full, needing_in, row_if_needed, kept_at_change, lost_at_change}
-use Rattle.st_events.specs.Sound.{IsSound, IsNoted}
+use Rattle.st_events.specs.World.{World, Launched, changed, at, is_among, is_lost, is_full, needing_in, kept_at_change, lost_at_change}
+use Rattle.st_events.specs.Sound.{IsSound}
 use Rattle.st_events.proofs.WorldLemmas.{at-same, at-other}
 use Rattle.st_events.proofs.AmongLemmas.{filter-is_among}
 use Rattle.st_events.proofs.KeptLemmas.{is_lost-back, pairs-is_lost}
@@ -19,9 +19,9 @@ use Rattle.st_snap.specs.declared.headers.Target.TheVariants.{Copied, Gone}
 use Rattle.st_snap.specs.Lanes.{is_between, is_within}
 use Rattle.st_snap.specs.Pool.{PoolVersions, KeptVersion, Keeps, kept_in}
 use Rattle.st_snap.specs.Table.{TableLists, KeepsVersion, KeepsFor, Changes, HasWords, adjust, stamped, sent}
-use Rattle.st_snap.specs.Represents.{Represents, IsLive, AreLanes, ArePooled, AreForwards, IsForwardAt, IsForwardOf, IsTargetOf, IsCopyOf, row_of}
-use Rattle.st_snap.proofs.AnyLemmas.{found_any, among_any, filter-none, row-needed}
-use Rattle.st_snap.proofs.ListLemmas.{length-adjust, adjust-other, adjust-found, adjust-same}
+use Rattle.st_snap.specs.Represents.{Represents, IsForwardAt, IsForwardOf, IsTargetOf, row_of}
+use Rattle.st_snap.proofs.AnyLemmas.{found_any, filter-none, row-needed}
+use Rattle.st_snap.proofs.ListLemmas.{length-adjust, adjust-other, adjust-found}
 use Rattle.st_snap.proofs.LaneLemmas.{between-active}
 use Rattle.st_snap.proofs.RowLemmas.{within, needing-within, full-not, full-is}
 use Rattle.st_snap.proofs.ForwardLemmas.{forwarded-at, IsForwarded}

@@ -1,6 +1,6 @@
 -- The tables go on meaning the world: the start, a new object, a launch and a retire
-use Rattle.std.proofs.Common.{◌≡◌, ◌≢◌, ℕ, zero, suc, ◌+◌, ◌*◌, ◌<◌, ◌≤◌, ◌==◌, ◌⊎◌, cond, Bool, true, false, inl, inr, List, [], ◌∷◌, ◌++◌, length, map, filter, slice_get, slice_set, replicate, Option, Some, None, refl, sym, ◌∙◌, ap, subst, arith, IsSome}
-use Rattle.std.specs.List.{list_any, All, Contains, count_by}
+use Rattle.std.proofs.Common.{◌≡◌, ℕ, zero, suc, ◌+◌, ◌<◌, ◌≤◌, cond, inl, inr, List, length, slice_get, slice_set, replicate, Option, Some, None, refl, sym, ◌∙◌, ap, subst, arith, IsSome}
+use Rattle.std.specs.List.{count_by}
 use Rattle.std.proofs.lemmas.List.{length-set, length-replicate}
 use Rattle.std.proofs.lemmas.List.Elements.{All-weaker, All-filter, All-nil}
 use Rattle.std.proofs.lemmas.Option.{slice_get_within}
@@ -10,18 +10,17 @@ use Rattle.st_events.specs.declared.events.Event.TheVariants.{New, Launch, Retir
 use Rattle.st_events.specs.declared.events.Args.{Args}
 use Rattle.st_events.specs.declared.limits.Sizes.{Sizes}
 use Rattle.st_events.specs.Shape.{ShapeLists}
-use Rattle.st_events.specs.Heap.{Heap, Object, heap_of, with_object, fresh, first_heap}
-use Rattle.st_events.specs.World.{World, Launched, next, first_world, at, is_among, is_lost, without, released}
-use Rattle.st_events.specs.Sound.{IsSound, IsNoted}
+use Rattle.st_events.specs.Heap.{Heap, with_object, fresh}
+use Rattle.st_events.specs.World.{World, Launched, next, first_world, at, without, released}
+use Rattle.st_events.specs.Sound.{IsSound}
 use Rattle.st_events.proofs.WorldLemmas.{at-same, at-other}
-use Rattle.st_events.proofs.LegalLemmas.{LegalNew, LegalLaunch}
+use Rattle.st_events.proofs.LegalLemmas.{LegalNew}
 use Rattle.st_events.proofs.SoundHeap.{next_is_absent}
-use Rattle.st_snap.specs.declared.headers.Forward.{Forward}
 use Rattle.st_snap.specs.declared.headers.Header.{Header}
-use Rattle.st_snap.specs.Lanes.{is_idle, is_between, is_within}
-use Rattle.st_snap.specs.Pool.{KeptVersion, is_read, no_versions}
-use Rattle.st_snap.specs.Table.{TableLists, IsFirst, Makes, adjust, stamped, retired_at, released_pool, object_room}
-use Rattle.st_snap.specs.Represents.{Represents, IsLive, AreLanes, ArePooled, AreForwards, IsForwardAt, IsForwardOf, IsTargetOf, row_of}
+use Rattle.st_snap.specs.Lanes.{is_idle, is_between}
+use Rattle.st_snap.specs.Pool.{KeptVersion, is_read}
+use Rattle.st_snap.specs.Table.{TableLists, IsFirst, Makes, adjust, stamped, retired_at, released_pool}
+use Rattle.st_snap.specs.Represents.{Represents, IsForwardOf}
 use Rattle.st_snap.proofs.AnyLemmas.{found_any}
 use Rattle.st_snap.proofs.ListLemmas.{slice_get-replicate, length-adjust, adjust-other, adjust-found}
 use Rattle.st_snap.proofs.LaneLemmas.{set-same, set-other, AreLanes-launch, AreLanes-retire, between-active}

@@ -1,19 +1,14 @@
 -- The versions in the pool are the copies kept
-use Rattle.std.proofs.Common.{◌≡◌, ◌≢◌, ℕ, zero, suc, ◌+◌, ◌<◌, ◌≤◌, ◌==◌, cond, not, Bool, true, false, inl, inr, List, [], ◌∷◌, ◌++◌, length, slice_get, slice_set, map, Option, Some, None, refl, sym, ◌∙◌, ap, subst, arith, filter, nat_lt, nat_le, append-nil, get_or}
-use Rattle.std.specs.Prelude.{◌||◌, ◌&&◌}
+use Rattle.std.proofs.Common.{◌≡◌, ℕ, zero, suc, ◌<◌, ◌≤◌, ◌==◌, cond, not, Bool, true, false, List, [], ◌∷◌, ◌++◌, length, map, Option, refl, sym, ◌∙◌, ap, arith, filter, nat_lt, append-nil, get_or}
 use Rattle.std.specs.List.{list_any, All, Contains}
-use Rattle.std.proofs.lemmas.List.{length-map, map-append}
-use Rattle.std.proofs.lemmas.List.Elements.{filter-append, All-filter, All-push, All-weaker, All-head, All-tail, Contains-append_left, Contains-push}
-use Rattle.std.proofs.lemmas.Bool.Decides.{eqb_tells, nat_tests}
+use Rattle.std.proofs.lemmas.List.Elements.{filter-append, All-head, All-tail}
+use Rattle.std.proofs.lemmas.Bool.Decides.{nat_tests}
 use Rattle.st_events.specs.declared.limits.Sizes.{Sizes}
-use Rattle.st_events.specs.World.{World, Row, Pair, is_among, is_full, without, released, row_if_needed, needing_in, kept_at_change, lost_at_change}
-use Rattle.st_events.proofs.AmongLemmas.{or_cases, or_first, or_second}
+use Rattle.st_events.specs.World.{World, is_among, is_full, without, released, row_if_needed, needing_in}
 use Rattle.st_snap.specs.Lanes.{is_within, is_between}
-use Rattle.st_snap.specs.Pool.{PoolVersions, KeptVersion, is_read, kept_in}
-use Rattle.st_snap.specs.Represents.{AreLanes, ArePooled, row_of}
-use Rattle.st_snap.specs.Table.{released_pool}
+use Rattle.st_snap.specs.Pool.{KeptVersion, is_read}
+use Rattle.st_snap.specs.Represents.{row_of}
 use Rattle.st_snap.proofs.AnyLemmas.{filter-same, filter-none, row-needed, filter-swap}
-use Rattle.st_snap.proofs.LaneLemmas.{between-active}
 
 -- a number that is above is not within
 pub not-within : (after upto n : ℕ) → upto < n → is_within after upto n ≡ false

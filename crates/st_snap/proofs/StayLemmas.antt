@@ -1,5 +1,5 @@
 -- A cell stays, and so does what a check finds of the heap at its launch
-use Rattle.std.proofs.Common.{◌≡◌, ◌≢◌, ℕ, ◌+◌, ◌<◌, ◌≤◌, Bool, true, false, inl, inr, List, [], ◌∷◌, ◌++◌, length, slice_get, slice_set, Option, Some, None, refl, sym, ◌∙◌, ap, subst, arith, IsSome}
+use Rattle.std.proofs.Common.{◌≡◌, ℕ, true, false, inl, inr, [], ◌∷◌, slice_get, slice_set, Option, Some, None, refl, sym, ◌∙◌, subst, arith, IsSome}
 use Rattle.std.specs.Option.{option_map}
 use Rattle.std.proofs.lemmas.List.{length-set}
 use Rattle.std.proofs.lemmas.Option.{slice_get_within, slice_get-get_or}
@@ -9,8 +9,8 @@ use Rattle.st_events.specs.declared.events.Event.TheVariants.{New, Load, Store, 
 use Rattle.st_events.specs.declared.limits.Sizes.{Sizes}
 use Rattle.st_events.specs.Shape.{ShapeLists, IsWithinLimits}
 use Rattle.st_events.specs.Heap.{Heap, Object, word_of, word_at, with_object, with_word, set_word, fresh}
-use Rattle.st_events.specs.World.{World, Launched, next, world_after, at}
-use Rattle.st_events.specs.Legal.{IsLegal, IsLegalNext}
+use Rattle.st_events.specs.World.{World, Launched, next}
+use Rattle.st_events.specs.Legal.{IsLegalNext}
 use Rattle.st_events.specs.Sound.{IsSound}
 use Rattle.st_events.proofs.WorldLemmas.{world_after-snoc, at-other}
 use Rattle.st_events.proofs.LegalLemmas.{legal_new, legal_launch, IsLegal-prefix, IsLegal-rest}

@@ -1,6 +1,5 @@
 -- What keeping a version leaves as it was
-use Rattle.std.proofs.Common.{◌≡◌, ℕ, length, refl, ap, ◌∙◌, inl, inr}
-use Rattle.std.proofs.Common.{Option}
+use Rattle.std.proofs.Common.{◌≡◌, ℕ, length, ap, ◌∙◌, inl, inr}
 use Rattle.st_snap.specs.Table.{TableLists, KeepsVersion, Changes, Makes, sent}
 use Rattle.st_events.specs.Shape.{ShapeLists}
 use Rattle.st_snap.proofs.ListLemmas.{length-adjust}

@@ -1,20 +1,20 @@
 -- What a forwarding word means, while other things change
-use Rattle.std.proofs.Common.{◌≡◌, ◌≢◌, ℕ, ◌+◌, ◌<◌, ◌≤◌, ◌⊎◌, cond, Bool, true, false, inl, inr, List, ◌++◌, length, map, slice_get, Option, Some, None, refl, sym, ◌∙◌, ap, subst, arith, nat_lt}
+use Rattle.std.proofs.Common.{◌≡◌, ◌≢◌, ℕ, ◌<◌, ◌≤◌, ◌⊎◌, cond, Bool, true, false, inl, inr, List, ◌++◌, map, slice_get, Option, refl, sym, ◌∙◌, ap, arith, nat_lt}
 use Rattle.std.specs.List.{Contains}
-use Rattle.std.proofs.lemmas.Bool.Decides.{eqb_tells, nat_tests}
+use Rattle.std.proofs.lemmas.Bool.Decides.{eqb_tells}
 use Rattle.st_events.specs.declared.limits.Sizes.{Sizes}
 use Rattle.st_events.specs.Heap.{Object}
-use Rattle.st_events.specs.World.{World, Pair, is_lost, is_full, is_among, needing_in, lost_at_change}
+use Rattle.st_events.specs.World.{World, Pair, is_lost, is_full, needing_in, lost_at_change}
 use Rattle.st_events.proofs.AmongLemmas.{is_among-filter}
 use Rattle.st_events.proofs.LegalLemmas.{is_below}
-use Rattle.st_events.proofs.KeptLemmas.{is_lost-append, is_lost-front, is_lost-back, is_lost-pairs, pairs-is_lost}
+use Rattle.st_events.proofs.KeptLemmas.{is_lost-append, is_lost-front, is_lost-pairs}
 use Rattle.st_snap.specs.declared.headers.Forward.{Forward}
 use Rattle.st_snap.specs.declared.headers.Header.{Header}
 use Rattle.st_snap.specs.declared.headers.Target.{Target}
 use Rattle.st_snap.specs.declared.headers.Target.TheVariants.{Copied, Gone}
 use Rattle.st_snap.specs.Pool.{PoolVersions, KeptVersion}
 use Rattle.st_snap.specs.Table.{adjust, stamped}
-use Rattle.st_snap.specs.Represents.{IsCopyOf, IsTargetOf, IsForwardAt}
+use Rattle.st_snap.specs.Represents.{IsTargetOf, IsForwardAt}
 use Rattle.st_snap.proofs.AnyLemmas.{bool_same}
 use Rattle.st_snap.proofs.ListLemmas.{adjust-other, adjust-found}
 

@@ -1,5 +1,5 @@
 -- The one invariant of a snapshot heap: what its fields have to do with its journal
-use Rattle.std.specs.Prelude.{◌≡◌, ℕ, ◌+◌, ◌≤◌, List, length}
+use Rattle.std.specs.Prelude.{◌≡◌, ◌+◌, ◌≤◌, length}
 use Rattle.st_events.specs.declared.limits.Sizes.{Sizes}
 use Rattle.st_events.specs.Journal.{Written}
 use Rattle.st_events.specs.Shape.{ShapeLists, IsWithinLimits}

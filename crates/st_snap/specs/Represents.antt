@@ -1,5 +1,5 @@
 -- What the tables mean: the world that a journal makes
-use Rattle.std.specs.Prelude.{◌≡◌, ◌≢◌, ℕ, ◌+◌, ◌*◌, ◌<◌, ◌≤◌, Bool, true, false, List, length, map, filter, count_by, slice_get, Option, Some, None, IsSome}
+use Rattle.std.specs.Prelude.{◌≡◌, ◌≢◌, ℕ, ◌+◌, ◌<◌, ◌≤◌, true, false, List, length, map, filter, count_by, slice_get, Option, Some, IsSome}
 use Rattle.std.specs.List.{Contains, All}
 use Rattle.st_events.specs.declared.limits.Sizes.{Sizes}
 use Rattle.st_events.specs.Heap.{Object, heap_of}

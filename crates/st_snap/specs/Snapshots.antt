@@ -1,8 +1,7 @@
-use Rattle.std.specs.Prelude.{◌≡◌, ℕ, ◌+◌, ◌*◌, ◌<◌, ◌≤◌, Bool, List, [], ◌∷◌, ◌++◌, length, slice_get, Option, Some, None, IsSome}
+use Rattle.std.specs.Prelude.{◌≡◌, ℕ, ◌*◌, ◌<◌, Bool, List, [], ◌∷◌, ◌++◌, length, slice_get, Option, Some, None, IsSome}
 use Rattle.st_events.specs.declared.events.Event.{Event}
 use Rattle.st_events.specs.declared.limits.Sizes.{Sizes}
-use Rattle.st_events.specs.Shape.{ShapeLists, IsWithinLimits}
-use Rattle.st_events.specs.Sizes.{AreWithinLimits}
+use Rattle.st_events.specs.Shape.{ShapeLists}
 use Rattle.st_events.specs.Heap.{Heap, word_at}
 use Rattle.st_events.specs.declared.events.Args.{Args}
 use Rattle.st_events.specs.World.{World, Launched, Row, world_after, is_lost}

@@ -1,9 +1,9 @@
-use Rattle.std.specs.Prelude.{◌≡◌, ◌≢◌, ℕ, zero, suc, ◌+◌, ◌*◌, ◌<◌, ◌⊎◌, nat_lt, Bool, true, false, cond, List, [], ◌∷◌, length, filter, position, slice_get, slice_set, slice_index, replicate, Option, Some, None, IsSome}
+use Rattle.std.specs.Prelude.{◌≡◌, ◌≢◌, ℕ, zero, suc, ◌+◌, ◌*◌, ◌<◌, ◌⊎◌, Bool, true, false, List, [], ◌∷◌, length, filter, position, slice_get, slice_set, slice_index, replicate, Option, Some, None}
 use Rattle.std.specs.List.{list_any, Contains}
 use Rattle.st_events.specs.declared.limits.Sizes.{Sizes}
 use Rattle.st_events.specs.declared.heaps.TheConstants.{FIRST_OF_REGIONS}
 use Rattle.st_events.specs.Shape.{ShapeLists}
-use Rattle.st_events.specs.Heap.{Object, Heap, heap_of, word_of, word_at, with_object, with_word, fresh, first_heap}
+use Rattle.st_events.specs.Heap.{Object, heap_of, word_of, word_at, with_object, with_word, fresh, first_heap}
 use Rattle.st_snap.specs.declared.headers.Forward.{Forward}
 use Rattle.st_snap.specs.declared.headers.Header.{Header}
 use Rattle.st_snap.specs.declared.headers.Target.{Target}

@@ -1,4 +1,4 @@
-use Rattle.std.proofs.Common.{◌+◌, ◌==◌, cond, arith}
+use Rattle.std.proofs.Common.{◌==◌, cond, arith}
 use Rattle.std.proofs.lemmas.Bool.Decides.{nat_tests}
 use Rattle.std.proofs.lemmas.List.Sums.{sum_by_push}
 use Rattle.st_snap.proofs.pools.all_numbers.Goals as goal

@@ -1,4 +1,4 @@
-use Rattle.std.proofs.Common.{◌≡◌, Bool, rules}
+use Rattle.std.proofs.Common.{rules}
 use Rattle.std.specs.List.{list_any}
 use Rattle.std.proofs.lemmas.Fn.{filter_same}
 use Rattle.st_snap.specs.declared.pools.Version.{Version}

@@ -1,4 +1,4 @@
-use Rattle.std.proofs.Common.{◌≡◌, ◌+◌, ◌≤◌, not, Bool, arith, ap, ◌∙◌, sym}
+use Rattle.std.proofs.Common.{not, Bool, arith, ap, ◌∙◌, sym}
 use Rattle.std.specs.List.{list_any}
 use Rattle.st_snap.specs.declared.pools.Version.{Version}
 use Rattle.st_snap.specs.Lanes.{is_between}

@@ -1,5 +1,5 @@
-use Rattle.std.proofs.Common.{rules, ◌≡◌, ◌≢◌, ◌≤◌, length, ℕ, ◌+◌, ◌-◌, ◌*◌, ◌<◌, ◌==◌, Bool, true, false, nat_eq, nat_lt, List, [], ◌∷◌, ◌++◌, slice_index_or, slice_set, slice_get, replicate, Option, Some, None, take, arith, cond, refl, ap, sym, subst, ◌∙◌, inl, inr}
-use Rattle.std.specs.Option.{unwrap_or, IsSome}
+use Rattle.std.proofs.Common.{◌<◌, arith, refl, ap, ◌∙◌}
+use Rattle.std.specs.Option.{unwrap_or}
 use Rattle.st_events.specs.declared.shapes.TheConstants.{MOST_FIELDS}
 use Rattle.st_snap.proofs.tables.words_of.Goals as goal
 

@@ -1,5 +1,4 @@
-use Rattle.std.proofs.Common.{◌+◌, length, take, arith, refl, sym, ◌≡◌}
-use Rattle.st_snap.specs.Headers.{forward_all, forward_one}
+use Rattle.std.proofs.Common.{refl, sym}
 use Rattle.st_snap.proofs.HeaderLemmas.{forward_none, forward_next}
 use Rattle.st_snap.proofs.headers.Header.forward_to.Goals as goal
 

@@ -1,6 +1,6 @@
-use Rattle.std.proofs.Common.{◌≡◌, ◌<◌, ℕ, ◌++◌, ◌∷◌, [], length, arith, refl, sym, ap, ◌∙◌, length-append, length-set}
+use Rattle.std.proofs.Common.{◌≡◌, ◌<◌, ◌++◌, ◌∷◌, [], length, arith, refl, ap, ◌∙◌, length-append, length-set}
 use Rattle.st_snap.specs.declared.pools.Version.{Version}
-use Rattle.st_snap.specs.PoolLists.{uses, kept_of}
+use Rattle.st_snap.specs.PoolLists.{kept_of}
 use Rattle.st_snap.proofs.PoolLemmas.{uses-keep, free_is_copy, free_is_unused, versions_of-keep}
 use Rattle.std.proofs.lemmas.List.{length-map}
 use Rattle.st_snap.proofs.pools.Pool.keep.Goals as goal

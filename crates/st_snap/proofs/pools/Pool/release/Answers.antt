@@ -1,4 +1,4 @@
-use Rattle.std.proofs.Common.{◌≡◌, ◌<◌, ℕ, arith, ◌∙◌}
+use Rattle.std.proofs.Common.{arith, ◌∙◌}
 use Rattle.std.specs.List.{list_any}
 use Rattle.st_snap.specs.declared.pools.Version.{Version}
 use Rattle.st_snap.specs.Lanes.{is_between}

@@ -1,4 +1,4 @@
-use Rattle.std.proofs.Common.{◌≡◌, ◌<◌, ℕ, [], length, arith, sym, ◌∙◌, subst, ap, get_or}
+use Rattle.std.proofs.Common.{[], arith, sym, ◌∙◌, subst, ap, get_or}
 use Rattle.std.specs.List.{Contains}
 use Rattle.std.proofs.lemmas.List.{get_or_read}
 use Rattle.st_snap.specs.Pool.{PoolVersions}

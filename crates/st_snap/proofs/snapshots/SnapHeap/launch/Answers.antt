@@ -1,21 +1,15 @@
-use Rattle.std.proofs.Common.{rules, ◌≡◌, ◌≢◌, ◌≤◌, length, ℕ, ◌+◌, ◌-◌, ◌*◌, ◌<◌, ◌==◌, Bool, true, false, List, [], ◌∷◌, ◌++◌, slice_get, slice_set, map, Option, Some, None, arith, cond, refl, ap, sym, subst, ◌∙◌, inl, inr, IsSome}
-use Rattle.st_events.specs.declared.events.Event.{Event}
-use Rattle.st_events.specs.declared.events.Event.TheVariants.{New, Load, Store, Cas, Launch, Retire}
-use Rattle.st_events.specs.Heap.{Heap, word_at, heap_of}
-use Rattle.st_events.specs.World.{World, world_after, next}
-use Rattle.st_events.specs.Legal.{is_word}
-use Rattle.st_snap.specs.Lanes.{lanes_after, is_idle, put_at}
-use Rattle.st_snap.specs.Snapshots.{Snapshots, HasSpare, heap_now, lanes_now, world_of, has_kind_of, are_args_of, active_now}
-use Rattle.st_snap.specs.Table.{TableLists, Changes}
+use Rattle.std.proofs.Common.{◌≡◌, ◌≢◌, length, ℕ, ◌+◌, ◌<◌, true, List, slice_get, slice_set, Option, Some, None, arith, refl, ap, sym, subst, ◌∙◌}
+use Rattle.st_events.specs.declared.events.Event.TheVariants.{Launch}
+use Rattle.st_events.specs.World.{world_after, next}
+use Rattle.st_snap.specs.Lanes.{put_at}
+use Rattle.st_snap.specs.Snapshots.{Snapshots, HasSpare, are_args_of, active_now}
+use Rattle.st_snap.specs.Table.{TableLists}
 use Rattle.st_snap.specs.declared.lanes.Lane.{Lane}
 use Rattle.st_snap.specs.Represents.{Represents}
-use Rattle.st_snap.proofs.HoldsLemmas.{holds-first, holds-next, sound-now, epoch-small, cell-has-header, cell-is-small, represents-cas, cas-same-lanes, lane-here, here-lane, launch-known}
-use Rattle.st_snap.proofs.LegalEvents.{legal-new, legal-load, legal-store, legal-cas, legal-launch, legal-retire}
-use Rattle.st_snap.proofs.RepresentsSteps.{represents-new, represents-launch, represents-retire}
-use Rattle.st_snap.proofs.RepresentsChange.{represents-change}
-use Rattle.st_snap.proofs.TableLemmas.{changed_same_lanes, made_same_lanes}
+use Rattle.st_snap.proofs.HoldsLemmas.{holds-next, sound-now, epoch-small, lane-here, here-lane}
+use Rattle.st_snap.proofs.LegalEvents.{legal-launch}
+use Rattle.st_snap.proofs.RepresentsSteps.{represents-launch}
 use Rattle.st_snap.proofs.snapshots.SnapHeap.launch.Goals as goal
-use Rattle.st_events.specs.Legal.{args_fit}
 use Rattle.st_snap.specs.Snapshots.{IsLaneOf}
 use Rattle.st_snap.proofs.LaneLemmas.{first-idle, all-active, one-idle, set-same, set-other}
 use Rattle.std.proofs.lemmas.Option.{slice_get_within}

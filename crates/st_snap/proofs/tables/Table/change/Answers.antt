@@ -1,7 +1,7 @@
-use Rattle.std.proofs.Common.{rules, ◌≡◌, ◌≢◌, ◌≤◌, length, ℕ, ◌+◌, ◌-◌, ◌*◌, ◌<◌, ◌==◌, Bool, true, false, nat_eq, nat_lt, List, [], ◌∷◌, ◌++◌, slice_index_or, slice_set, slice_get, replicate, Option, Some, None, take, arith, cond, refl, ap, sym, subst, ◌∙◌, inl, inr}
+use Rattle.std.proofs.Common.{◌≡◌, length, ◌<◌, arith, refl, ap, ◌∙◌}
 use Rattle.st_events.specs.Heap.{with_word, heap_of}
-use Rattle.st_snap.specs.Table.{TableLists, Changes, KeepsVersion, stamped}
-use Rattle.st_snap.proofs.ListLemmas.{adjust-set, found-at}
+use Rattle.st_snap.specs.Table.{TableLists, stamped}
+use Rattle.st_snap.proofs.ListLemmas.{adjust-set}
 use Rattle.st_snap.proofs.TableLemmas.{kept_same_heap, kept_header_room, kept_same_epoch}
 use Rattle.st_snap.proofs.tables.Table.change.Goals as goal
 

@@ -1,6 +1,5 @@
-use Rattle.std.proofs.Common.{rules, ◌≡◌, ◌≢◌, ◌≤◌, length, ℕ, ◌+◌, ◌-◌, ◌*◌, ◌<◌, ◌==◌, Bool, true, false, nat_eq, nat_lt, List, [], ◌∷◌, ◌++◌, slice_index_or, slice_set, slice_get, replicate, Option, Some, None, take, arith, cond, refl, ap, sym, subst, ◌∙◌, inl, inr}
-use Rattle.st_snap.specs.declared.headers.Header.{Header}
-use Rattle.st_snap.specs.Table.{TableLists, KeepsVersion, stamped, sent}
+use Rattle.std.proofs.Common.{◌≡◌, length, ◌<◌, arith, refl, ap, sym, ◌∙◌, inl, inr}
+use Rattle.st_snap.specs.Table.{TableLists, sent}
 use Rattle.st_snap.proofs.HeaderLemmas.{header-same}
 use Rattle.st_snap.proofs.ListLemmas.{adjust-set, found-at}
 use Rattle.st_snap.proofs.tables.Table.keep_version.Goals as goal

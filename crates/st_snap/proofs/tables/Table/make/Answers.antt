@@ -1,4 +1,4 @@
-use Rattle.std.proofs.Common.{rules, ◌≡◌, ◌≢◌, ◌≤◌, length, ℕ, ◌+◌, ◌-◌, ◌*◌, ◌<◌, ◌==◌, Bool, true, false, nat_eq, nat_lt, List, [], ◌∷◌, ◌++◌, slice_index_or, slice_set, slice_get, replicate, Option, Some, None, take, arith, cond, refl, ap, sym, subst, ◌∙◌, inl, inr}
+use Rattle.std.proofs.Common.{rules, ◌≡◌, ℕ, slice_get, replicate, Some, arith, refl, ap, sym, ◌∙◌}
 use Rattle.st_snap.specs.declared.headers.Header.{Header}
 use Rattle.st_snap.specs.declared.headers.Forward.{Forward}
 use Rattle.st_snap.specs.declared.headers.Target.TheVariants.{Gone}
