@@ -3,9 +3,8 @@
 
 use st_io::{NoPace, RealFiles, RealSink};
 use st_top::strobe;
-use std::env;
-use std::io;
 use std::process::ExitCode;
+use std::{env, io};
 
 /// The words of the command line, without the program's name.
 fn command_words(rt: &HostRuntime) -> io::Result<Vec<String>> {
