@@ -1,5 +1,4 @@
 mod AnyLemmas
-mod DriveLemmas
 mod ForwardLemmas
 mod HeaderLemmas
 mod HoldsLemmas
