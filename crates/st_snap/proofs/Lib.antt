@@ -1,4 +1,5 @@
 mod AnyLemmas
+mod DriveLemmas
 mod ForwardLemmas
 mod HeaderLemmas
 mod HoldsLemmas

@@ -1,3 +1,4 @@
+pub mod Drive
 pub mod Headers
 pub mod Holds
 pub mod Lanes

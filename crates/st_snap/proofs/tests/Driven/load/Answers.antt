@@ -1,0 +1,11 @@
+use Rattle.std.proofs.Common.{rules, ◌≡◌, ◌≢◌, ◌≤◌, length, ℕ, ◌+◌, ◌<◌, ◌==◌, Bool, true, false, List, [], ◌∷◌, ◌++◌, slice_get, Option, Some, None, arith, cond, refl, ap, sym, subst, ◌∙◌}
+use Rattle.std.specs.Result.{is_ok}
+use Rattle.st_events.specs.declared.events.Event.TheVariants.{New, Load, Store, Cas, Launch, Retire}
+use Rattle.st_snap.specs.declared.lanes.Lane.{Lane}
+use Rattle.st_snap.proofs.DriveLemmas.{driven-kind, driven-args, driven-held, driven-stays, driven-new, driven-launch, driven-pushed, driven-known, other-numbers, empty-list}
+use Rattle.st_snap.proofs.tests.Driven.load.Goals as goal
+
+pub invariant_of-self : goal.invariant_of-self
+invariant_of-self c =
+    let f = c.self.inside in
+    driven-stays f.heap c.load.new.self (Load c.args.m c.in_ok-obj.obj c.args.field c.load.result) f.sizes f.width f.objects.items f.checks.items c.self.invariant c.load.ensures.event c.load.ensures.legal (λ lane is. ap (λ (ls : List (Option ℕ)). slice_get ls lane.index) c.load.ensures.lanes ∙ is)

@@ -1,0 +1,20 @@
+use Rattle.std.proofs.Common.{rules, ◌≡◌, ◌≢◌, ◌≤◌, length, ℕ, ◌+◌, ◌<◌, ◌==◌, Bool, true, false, List, [], ◌∷◌, ◌++◌, slice_get, Option, Some, None, arith, cond, refl, ap, sym, subst, ◌∙◌, get_or}
+use Rattle.std.specs.Result.{is_ok}
+use Rattle.std.specs.List.{list_any, remove}
+use Rattle.st_events.specs.declared.events.Event.TheVariants.{New, Load, Store, Cas, Launch, Retire}
+use Rattle.st_events.proofs.AmongLemmas.{same_numbers}
+use Rattle.st_snap.specs.declared.lanes.Lane.{Lane}
+use Rattle.st_snap.specs.Drive.{IsDriven}
+use Rattle.st_snap.proofs.DriveLemmas.{driven-held, driven-stays, driven-new, driven-known, driven-less, other-numbers, empty-list}
+use Rattle.st_snap.proofs.tests.Driven.new.Goals as goal
+
+pub invariant_of-self : goal.invariant_of-self
+invariant_of-self c =
+    let f = c.self.inside in
+    let none = same_numbers _ 0 (sym c.is_empty.ensures ∙ c.if-not-is_empty.false) in
+    let empty : f.checks.items ≡ [] = empty-list f.checks.items (omega (arith, none, f.checks.ok.0)) in
+    let d = driven-stays f.heap c.new-obj.new.self (New c.args.m c.new-obj.result 1) f.sizes f.width f.objects.items f.checks.items c.self.invariant c.new-obj.ensures.event c.new-obj.ensures.legal (λ lane is. ap (λ (ls : List (Option ℕ)). slice_get ls lane.index) c.new-obj.ensures.lanes ∙ is) in
+    driven-known c.new-obj.new.self f.sizes f.width f.objects.items c.push.new.self.items f.checks.items (c.new-obj.result, f.width) (is_ok c.push.result) d
+    (subst (λ (held : List Lane). IsDriven c.new-obj.new.self f.sizes f.width (f.objects.items ++ (c.new-obj.result, f.width) ∷ []) held) (sym empty)
+    (driven-new f.heap c.new-obj.new.self f.sizes f.width c.args.m c.new-obj.result f.objects.items (subst (λ (held : List Lane). IsDriven c.new-obj.new.self f.sizes f.width f.objects.items held) empty d) c.self.invariant.shape c.new-obj.ensures.event))
+    c.push.ensures.items
