@@ -1,7 +1,9 @@
 -- What the functional run of a well-formed program leaves is a right run
 use Rattle.std.proofs.Common.{◌≡◌, ℕ, zero, suc, ◌+◌, ◌*◌, List, [], ◌∷◌, ◌++◌, length, slice_get, unwrap_or, Some, All, refl, sym, ◌∙◌, ap, subst, arith}
 use Rattle.std.proofs.lemmas.List.Elements.{All-from_recursion}
+use Rattle.st_events.specs.declared.events.Args.{Args}
 use Rattle.st_events.specs.declared.events.Event.{Event}
+use Rattle.st_events.specs.declared.events.Event.TheVariants.{Launch, Retire}
 use Rattle.st_events.specs.declared.limits.Sizes.{Sizes}
 use Rattle.st_events.specs.declared.verdicts.End.{End}
 use Rattle.st_events.specs.declared.verdicts.End.TheVariants.{Finished}
@@ -9,14 +11,16 @@ use Rattle.st_events.specs.declared.verdicts.Verdict.{Verdict}
 use Rattle.st_events.specs.History.{own_events}
 use Rattle.st_events.specs.Legal.{IsLegal}
 use Rattle.st_events.specs.Ran.{RanLists}
+use Rattle.st_events.specs.Shape.{ShapeLists}
 use Rattle.st_events.specs.Sizes.{usual_sizes}
 use Rattle.st_events.specs.World.{first_world}
 use Rattle.st_parse.specs.Small.{SmallLists}
 use Rattle.st_parse.specs.declared.programs.SmallStmt.{SmallStmt}
+use Rattle.st_parse.specs.declared.programs.SmallStmt.TheVariants.{Make, Put, Check}
 use Rattle.st_small.specs.Program.{IsWellFormed, shape_of}
 use Rattle.st_small.specs.Code.{Follows}
-use Rattle.st_small.specs.Right.{IsRightRun, IsRightVerdict, IsPlain, IsTruth}
-use Rattle.st_small.specs.Running.{HaveRoom, classes_of, start_of, events_from, verdicts_from, journal_of, all_verdicts_of, run_of, CanDoAll}
+use Rattle.st_small.specs.Right.{AreRetiredAtOnce, IsRightRun, IsRightVerdict, IsPlain, IsTruth}
+use Rattle.st_small.specs.Running.{Progress, HaveRoom, after, classes_of, start_of, events_from, verdicts_from, journal_of, all_verdicts_of, run_of, CanDoAll}
 use Rattle.st_small.specs.Machine.{progress_of}
 use Rattle.st_small.specs.declared.machines.Machine.{Machine}
 use Rattle.st_small.proofs.CodeLemmas.{IsAt, follows-from}
@@ -115,3 +119,22 @@ right-as-run program ran w is = subst (IsRightRun program (usual_sizes 1)) (sym 
 
 pub truths-as-run : (program : SmallLists) (sizes : Sizes) (ran : RanLists) → ran ≡ run_of program sizes → All IsTruth ran.verdicts
 truths-as-run program sizes ran is = subst (λ (r : RanLists). All IsTruth r.verdicts) (sym is) (truths program)
+
+-- just behind each launch stands the retirement of its check
+retired-next : (shape : ShapeLists) (at : Progress) (body : List SmallStmt) (place m number site : ℕ) (args : Args) → slice_get (events_from shape at body) place ≡ Some (Launch m number site args) →
+    slice_get (events_from shape at body) (suc place) ≡ Some (Retire m number)
+retired-next shape at [] place m number site args e = cc
+retired-next shape at (Make ∷ rest) zero m number site args e = cc
+retired-next shape at (Make ∷ rest) (suc place) m number site args e = retired-next shape (after shape at Make) rest place m number site args e
+retired-next shape at (Put local field value ∷ rest) zero m number site args e = cc
+retired-next shape at (Put local field value ∷ rest) (suc place) m number site args e = retired-next shape (after shape at (Put local field value)) rest place m number site args e
+retired-next shape at (Check local field value spot ∷ rest) zero m number site args e = cc
+retired-next shape at (Check local field value spot ∷ rest) (suc zero) m number site args e = cc
+retired-next shape at (Check local field value spot ∷ rest) (suc (suc place)) m number site args e = retired-next shape (after shape at (Check local field value spot)) rest place m number site args e
+
+pub retired-as-run : (program : SmallLists) (sizes : Sizes) (ran : RanLists) → ran ≡ run_of program sizes → AreRetiredAtOnce ran.journal
+retired-as-run program sizes ran is = subst (λ (r : RanLists). AreRetiredAtOnce r.journal) (sym is)
+    (λ place m number site args e. rw (n-plus-one place) (retired-next (classes_of program.fields) (start_of (classes_of program.fields)) program.body place m number site args e))
+  where
+    n-plus-one : (n : ℕ) → n + 1 ≡ suc n
+    n-plus-one n = omega arith

@@ -1,6 +1,8 @@
 -- A right run: one legal history, whole, with the plain value of each check on the heap as it stood at its launch.
 use Rattle.std.specs.Prelude.{◌≡◌, ℕ, ◌+◌, ◌*◌, ◌≤◌, List, [], length, All, Option, Some, None, slice_get}
+use Rattle.st_events.specs.declared.events.Args.{Args}
 use Rattle.st_events.specs.declared.events.Event.{Event}
+use Rattle.st_events.specs.declared.events.Event.TheVariants.{Launch, Retire}
 use Rattle.st_events.specs.declared.limits.Sizes.{Sizes}
 use Rattle.st_events.specs.declared.verdicts.End.{End}
 use Rattle.st_events.specs.declared.verdicts.Plain.TheVariants.{Holds, Fails}
@@ -33,6 +35,11 @@ abbrev pub IsTruth : Verdict → Type 0
 IsTruth (Value Holds) = Unit {0}
 IsTruth (Value Fails) = Unit {0}
 IsTruth verdict = ⊥
+
+-- just behind each launch stands the retirement of its check, by the same thread
+abbrev pub AreRetiredAtOnce : List Event → Type 0
+AreRetiredAtOnce journal =
+    (place m number site : ℕ) (args : Args) → slice_get journal place ≡ Some (Launch m number site args) → slice_get journal (place + 1) ≡ Some (Retire m number)
 
 -- what a run leaves is right: the journal is legal; each thread has one end, and its own events follow its code to that
 -- end; each launched check has one verdict, which is right; no check is active at the end, and every copy is free; and a

@@ -8,4 +8,5 @@ mod runs;
 #[cfg(test)]
 mod tests;
 
+pub use limits::ONLY_THREAD;
 pub use runs::run_small;

@@ -4,7 +4,7 @@ ghost use Rattle.st_events.specs.Heap.{first_heap, heap_of};
 ghost use Rattle.st_events.specs.Shape.{IsWithinLimits};
 ghost use Rattle.st_events.specs.Sizes.{usual_sizes, AreWithinLimits};
 ghost use Rattle.st_small.specs.Program.{IsWellFormed};
-ghost use Rattle.st_small.specs.Right.{IsRightRun, IsTruth};
+ghost use Rattle.st_small.specs.Right.{AreRetiredAtOnce, IsRightRun, IsTruth};
 ghost use Rattle.st_small.specs.Running.{CanDoAll, HaveRoom, events_from, verdicts_from, start_of, classes_of, run_of};
 ghost use Rattle.st_small.specs.Machine.{progress_of, HasDoneAtMost};
 
@@ -19,9 +19,10 @@ use std::alloc::Global;
 pub fn run_small(alloc: Global, small: &Small) -> Result<Ran, NoMemory>
     requires { IsWellFormed small.now }
     ensures right { IfOk result (λ ran. IsRightRun small.now (usual_sizes 1) ran) }
-    // The thread is finished, and each check holds or fails.
+    // The thread is finished, each check holds or fails, and none is active for longer than its launch.
     ensures finished { IfOk result (λ ran. ran.ends ≡ End.Finished ∷ []) }
     ensures truths { IfOk result (λ ran. All IsTruth ran.verdicts) }
+    ensures at_once { IfOk result (λ ran. AreRetiredAtOnce ran.journal) }
 {
     let sizes = Sizes::usual(1);
     run_with(alloc, small, &sizes)
