@@ -1,3 +1,4 @@
+mod Examples
 pub mod OutcomeLemmas
 pub mod ReportLemmas
 pub mod SourceLemmas

@@ -1,35 +1,60 @@
 -- From what a call leaves to what its status tells.
-use Rattle.std.proofs.Common.{◌≡◌, ◌≢◌, ℕ, List, Option, Some, None, IsSome, IfSome, IfNone, Bool, true, false, ◌⊎◌, ◌↔◌, IsTrue, inl, inr, refl, subst, arith}
+use Rattle.std.proofs.Common.{◌≡◌, ◌≢◌, ℕ, List, [], ◌∷◌, All, Option, Some, None, IsSome, IfSome, IfNone, Bool, true, false, ◌⊎◌, ◌↔◌, IsTrue, inl, inr, refl, ◌∙◌, subst, arith}
+use Rattle.std.proofs.lemmas.List.Elements.{recursion_from_All}
+use Rattle.std.specs.List.{AllByRecursion, list_any}
+use Rattle.st_events.specs.declared.verdicts.Plain.TheVariants.{Holds, Fails}
+use Rattle.st_events.specs.declared.verdicts.Verdict.{Verdict}
+use Rattle.st_events.specs.declared.verdicts.Verdict.TheVariants.{Plain}
 use Rattle.st_events.specs.Ran.{RanLists}
 use Rattle.st_io.specs.Counts.{RoseBy}
 use Rattle.st_io.specs.Device.{Counted}
+use Rattle.st_parse.specs.Small.{SmallLists}
 use Rattle.st_top.specs.Causes.{HasCause}
 use Rattle.st_top.specs.Refusals.{refused_status}
 use Rattle.st_top.specs.Outcomes.{IsReported, IsRefused, IsStatusOfRun, IsRefusedExactly}
 use Rattle.st_top.specs.Putting.{IsPut}
-use Rattle.st_top.specs.Report.{joined, report_text, run_status, some_fails}
+use Rattle.st_small.specs.Right.{IsTruth}
+use Rattle.st_top.specs.Report.{joined, is_fault, is_undecided, report_text, run_status, some_fails}
 use Rattle.std.specs.Option.{option_and_then}
-use Rattle.st_top.specs.Sources.{IsRunOf, IsAccepted, source_of}
+use Rattle.st_top.specs.Sources.{HasReport, IsRunOf, IsRunOfText, IsSourceOf, IsAccepted, source_of}
 use Rattle.st_top.specs.Words.{named_file}
 use Rattle.st_top.specs.declared.refusals.Refusal.{Refusal}
 use Rattle.st_top.specs.declared.refusals.Refusal.TheVariants.{Words, NoMemory, ReadFault, SourceTooLong, SourceNotBuilt}
 
 -- a run whose report was put
 pub reported : (named source : Option (List ℕ)) (ran : RanLists) (report : List (List ℕ)) (status : ℕ) (wb wn : Option (List ℕ)) (fb fn : ℕ)
-    → IsRunOf named source ran report → IsPut status ran (joined report) wb wn fb fn → IsReported named source status ran wb wn fb fn
+    → IsSome named → HasReport source ran report → IsPut status ran (joined report) wb wn fb fn → IsReported named source status ran wb wn fb fn
 unfolding report_text
-reported named source ran report status wb wn fb fn run put =
+reported named source ran report status wb wn fb fn words has put =
     let P : List (List ℕ) → Type 0 = λ lines. IsPut status ran (joined lines) wb wn fb fn in
-    record { words = run.words; program = run.program; of_source = run.of_source; right = run.right; report = subst P run.lines put }
+    record { words = words; program = has.program; run = has.run; report = subst P has.lines put }
+
+-- where each check holds or fails, a fault is a failure
+faults-are-fails : (verdicts : List Verdict) → AllByRecursion IsTruth verdicts → list_any is_fault verdicts ≡ some_fails verdicts
+faults-are-fails [] truths = refl
+faults-are-fails (Plain Holds ∷ rest) truths = faults-are-fails rest truths.1
+faults-are-fails (Plain Fails ∷ rest) truths = refl
+faults-are-fails (verdict ∷ rest) truths = absurd truths.0
+
+-- where each check holds or fails, none is without an answer
+all-decided : (verdicts : List Verdict) → AllByRecursion IsTruth verdicts → list_any is_undecided verdicts ≡ false
+all-decided [] truths = refl
+all-decided (Plain Holds ∷ rest) truths = all-decided rest truths.1
+all-decided (Plain Fails ∷ rest) truths = all-decided rest truths.1
+all-decided (verdict ∷ rest) truths = absurd truths.0
 
 -- the statuses of a run whose report was put whole
-whole-status : (status : ℕ) (ran : RanLists) → status ≡ run_status ran → (status ≡ 0) × (some_fails ran.verdicts ≡ false) ⊎ (status ≡ 1) × (some_fails ran.verdicts ≡ true)
+whole-status : (status : ℕ) (source : Option (List ℕ)) (program : SmallLists) (ran : RanLists) → IsRunOf source program ran → status ≡ run_status ran
+    → (status ≡ 0) × (some_fails ran.verdicts ≡ false) ⊎ (status ≡ 1) × (some_fails ran.verdicts ≡ true)
 unfolding run_status
-whole-status status ran is = go (some_fails ran.verdicts) refl
+whole-status status source program ran run is = go (some_fails ran.verdicts) refl
   where
+    truths : AllByRecursion IsTruth ran.verdicts
+    truths = recursion_from_All IsTruth ran.verdicts run.truths
+
     go : (b : Bool) → some_fails ran.verdicts ≡ b → (status ≡ 0) × (some_fails ran.verdicts ≡ false) ⊎ (status ≡ 1) × (some_fails ran.verdicts ≡ true)
-    go true e = inr (rw e at is, e)
-    go false e = inl (rw e at is, e)
+    go true e = inr (rw (run.finished, faults-are-fails ran.verdicts truths ∙ e) at is, e)
+    go false e = inl (rw (run.finished, faults-are-fails ran.verdicts truths ∙ e, all-decided ran.verdicts truths) at is, e)
 
 -- an option is not both
 some_of_none : (named : Option (List ℕ)) → IsSome named → named ≡ None → ⊥
@@ -45,7 +70,7 @@ words-decided named source before now status (Some r) wb wn fb fn run refused = 
   where
     not_words : status ≡ 2 → ⊥
     not_words is = elim run.report [
-      | inl w ↦ elim (whole-status status r w.as_run) [ inl p ↦ (let a = p.0 in omega arith) | inr p ↦ (let a = p.0 in omega arith) ]
+      | inl w ↦ elim (whole-status status _ _ r run.run w.as_run) [ inl p ↦ (let a = p.0 in omega arith) | inr p ↦ (let a = p.0 in omega arith) ]
       | inr w ↦ (let a = w.as_fault in omega arith)
     ]
 words-decided named source before now status None wb wn fb fn run refused = by_cause refused.refusal refused.as_refusal refused.cause
@@ -63,7 +88,7 @@ pub read_fault-counted : (named source : Option (List ℕ)) (before now : Counte
     → IfNone ran (IsRefused named source before now status wb wn fb fn)
     → status ≡ 5 → RoseBy 1 before.faults now.faults
 read_fault-counted named source before now status (Some r) wb wn fb fn run refused five = elim run.report [
-  | inl w ↦ elim (whole-status status r w.as_run) [ inl p ↦ (let a = p.0 in absurd (omega arith)) | inr p ↦ (let a = p.0 in absurd (omega arith)) ]
+  | inl w ↦ elim (whole-status status _ _ r run.run w.as_run) [ inl p ↦ (let a = p.0 in absurd (omega arith)) | inr p ↦ (let a = p.0 in absurd (omega arith)) ]
   | inr w ↦ (let a = w.as_fault in absurd (omega arith))
 ]
 read_fault-counted named source before now status None wb wn fb fn run refused five = by_cause refused.refusal refused.as_refusal refused.cause
@@ -81,7 +106,7 @@ pub write_fault-counted : (named source : Option (List ℕ)) (before now : Count
     → IfNone ran (IsRefused named source before now status wb wn fb fn)
     → status ≡ 6 → RoseBy 1 fb fn
 write_fault-counted named source before now status (Some r) wb wn fb fn run refused six = elim run.report [
-  | inl w ↦ elim (whole-status status r w.as_run) [ inl p ↦ (let a = p.0 in absurd (omega arith)) | inr p ↦ (let a = p.0 in absurd (omega arith)) ]
+  | inl w ↦ elim (whole-status status _ _ r run.run w.as_run) [ inl p ↦ (let a = p.0 in absurd (omega arith)) | inr p ↦ (let a = p.0 in absurd (omega arith)) ]
   | inr w ↦ w.faults
 ]
 write_fault-counted named source before now status None wb wn fb fn run refused six = absurd (by_cause refused.refusal refused.as_refusal)
@@ -99,7 +124,7 @@ pub check_fails-exactly : (named source : Option (List ℕ)) (status : ℕ) (ran
     → IfSome ran (λ r. status ≢ 6 → (status ≡ 1) ↔ IsTrue (some_fails r.verdicts))
 check_fails-exactly named source status None wb wn fb fn run = tt
 check_fails-exactly named source status (Some r) wb wn fb fn run = λ not_six. elim run.report [
-  | inl w ↦ elim (whole-status status r w.as_run) [
+  | inl w ↦ elim (whole-status status _ _ r run.run w.as_run) [
     | inl p ↦ (let a = p.0 in let b = p.1 in (λ one. absurd (omega arith), λ some. absurd (false_is_true _ b some)))
     | inr p ↦ (λ _. p.1, λ _. p.0)
   ]
@@ -119,7 +144,7 @@ ran-exactly named source before now status (Some r) wb wn fb fn run refused = (�
   where
     status_is : (status ≡ 0) ⊎ (status ≡ 1) ⊎ (status ≡ 6)
     status_is = elim run.report [
-      | inl w ↦ elim (whole-status status r w.as_run) [ inl p ↦ inl p.0 | inr p ↦ inr (inl p.0) ]
+      | inl w ↦ elim (whole-status status _ _ r run.run w.as_run) [ inl p ↦ inl p.0 | inr p ↦ inr (inl p.0) ]
       | inr w ↦ inr (inr w.as_fault)
     ]
 ran-exactly named source before now status None wb wn fb fn run refused = (λ is. cc, λ is. absurd (by_cause refused.refusal refused.as_refusal is))
@@ -140,11 +165,11 @@ pub refused-exactly : (named source : Option (List ℕ)) (before now : Counted) 
 unfolding IsAccepted
 refused-exactly named None before now status ran wb wn fb fn names run refused = tt
 refused-exactly named (Some text) before now status (Some r) wb wn fb fn names run refused =
-    record { only = λ three. absurd (not_three three); wherever = λ denied _ _. absurd (denied (run.program, run.of_source)) }
+    record { only = λ three. absurd (not_three three); wherever = λ denied _ _. absurd (denied (run.program, run.run.of_source)) }
   where
     not_three : status ≡ 3 → ⊥
     not_three three = elim run.report [
-      | inl w ↦ elim (whole-status status r w.as_run) [ inl p ↦ (let a = p.0 in omega arith) | inr p ↦ (let a = p.0 in omega arith) ]
+      | inl w ↦ elim (whole-status status _ _ r run.run w.as_run) [ inl p ↦ (let a = p.0 in omega arith) | inr p ↦ (let a = p.0 in omega arith) ]
       | inr w ↦ (let a = w.as_fault in omega arith)
     ]
 refused-exactly named (Some text) before now status None wb wn fb fn names run refused = by_cause refused.refusal refused.as_refusal refused.cause
@@ -172,7 +197,7 @@ pub accepted-runs : (named source : Option (List ℕ)) (text : List ℕ) (before
     → IsSome named → IsAccepted text → (status ≡ 0) ⊎ (status ≡ 1) ⊎ (status ≡ 7)
 unfolding IsAccepted
 accepted-runs named source text before now status (Some r) wb wn fb fn run refused told not_five not_six names accepted = elim run.report [
-  | inl w ↦ elim (whole-status status r w.as_run) [ inl p ↦ inl p.0 | inr p ↦ inr (inl p.0) ]
+  | inl w ↦ elim (whole-status status _ _ r run.run w.as_run) [ inl p ↦ inl p.0 | inr p ↦ inr (inl p.0) ]
   | inr w ↦ absurd (not_six w.as_fault)
 ]
 accepted-runs named source text before now status None wb wn fb fn run refused told not_five not_six names accepted =
@@ -192,3 +217,24 @@ source_of-one_text text words names = go (named_file words) names
     go : (named : Option (List ℕ)) → IsSome named → option_and_then (λ _. Some text) named ≡ Some text
     go None h = cc
     go (Some file) h = refl
+
+-- where every file has the text, a source is refused exactly where the text is no source
+pub text-refused-exactly : (text : List ℕ) (source : Option (List ℕ)) (status : ℕ) → source ≡ Some text
+    → IfSome source (λ t. IsRefusedExactly t status) → IsRefusedExactly text status
+text-refused-exactly text source status told refused = subst (λ (o : Option (List ℕ)). IfSome o (λ t. IsRefusedExactly t status)) told refused
+
+-- a run of the words is one of the text, where that is the source
+pub runs-the-text : (text : List ℕ) (named source : Option (List ℕ)) (status : ℕ) (ran : Option RanLists) (wb wn : Option (List ℕ)) (fb fn : ℕ)
+    → (IsSome named → source ≡ Some text)
+    → IfSome ran (λ r. IsReported named source status r wb wn fb fn)
+    → IfSome ran (λ r. IsRunOfText text r)
+runs-the-text text named source status None wb wn fb fn told run = tt
+runs-the-text text named source status (Some r) wb wn fb fn told run =
+    (run.program, subst (λ (o : Option (List ℕ)). IsRunOf o run.program r) (told run.words) run.run)
+
+-- where no write can fail, some check fails exactly where the status says so
+pub check_fails-surely : (status : ℕ) (ran : Option RanLists) → status ≢ 6
+    → IfSome ran (λ r. status ≢ 6 → (status ≡ 1) ↔ IsTrue (some_fails r.verdicts))
+    → IfSome ran (λ r. (status ≡ 1) ↔ IsTrue (some_fails r.verdicts))
+check_fails-surely status None not_six exactly = tt
+check_fails-surely status (Some r) not_six exactly = exactly not_six

@@ -1,25 +1,22 @@
 -- What a call leaves, with a run and without one.
-use Rattle.std.specs.Prelude.{◌≡◌, ◌≢◌, ℕ, ◌⊎◌, List, Option, IsSome, IfSome}
+use Rattle.std.specs.Prelude.{◌≡◌, ◌≢◌, ℕ, ◌⊎◌, List, Option, IsSome}
 use Rattle.st_events.specs.Ran.{RanLists}
-use Rattle.st_events.specs.Sizes.{usual_sizes}
 use Rattle.st_io.specs.Device.{Counted}
 use Rattle.st_parse.specs.Small.{SmallLists}
-use Rattle.st_small.specs.Right.{IsRightRun}
 use Rattle.st_top.specs.Causes.{HasCause}
 use Rattle.st_top.specs.Refusals.{line_of, refused_status}
 use Rattle.st_top.specs.Putting.{IsPut, IsLinePut}
 use Rattle.st_top.specs.Report.{heads_of, report_text}
-use Rattle.st_top.specs.Sources.{IsSourceOf, IsAccepted}
+use Rattle.st_top.specs.Sources.{IsAccepted, IsRunOf}
 use Rattle.st_top.specs.declared.refusals.Refusal.{Refusal}
 use Rattle.st_top.specs.declared.statuses.TheConstants.{STATUS_HOLDS, STATUS_CHECK_FAILS, STATUS_SOURCE, STATUS_READ_FAULT, STATUS_WRITE_FAULT, STATUS_NO_MEMORY}
 
--- there was a run: the words name a file; it was a right run, with the usual sizes, of a program, which is that of the
--- source where this is told; and its report was put, whole or cut off
+-- there was a run: the words name a file, what the run of its source left is right, and the report of it was put, whole
+-- or cut off
 pub record IsReported (named source : Option (List ℕ)) (status : ℕ) (ran : RanLists) (written-before written-now : Option (List ℕ)) (faults-before faults-now : ℕ) : Type 0 where
   pub words : IsSome named
   pub program : SmallLists
-  pub of_source : IfSome source (λ text. IsSourceOf text program)
-  pub right : IsRightRun program (usual_sizes 1) ran
+  pub run : IsRunOf source program ran
   pub report : IsPut status ran (report_text (heads_of program) ran) written-before written-now faults-before faults-now
 
 -- there was no run: the status is that of a refusal which has its cause, and its line was put

@@ -6,16 +6,17 @@ use Rattle.st_events.specs.declared.events.Event.{Event}
 use Rattle.st_events.specs.declared.events.Event.TheVariants.{Launch}
 use Rattle.st_events.specs.declared.events.Site.{Site}
 use Rattle.st_events.specs.declared.verdicts.End.{End}
-use Rattle.st_events.specs.declared.verdicts.Plain.TheVariants.{Holds, Fails}
+use Rattle.st_events.specs.declared.verdicts.End.TheVariants.{Finished}
+use Rattle.st_events.specs.declared.verdicts.Plain.TheVariants.{Holds, Fails, Null, Divide, Overflow, Spent, Deep}
 use Rattle.st_events.specs.declared.verdicts.Verdict.{Verdict}
-use Rattle.st_events.specs.declared.verdicts.Verdict.TheVariants.{Plain}
+use Rattle.st_events.specs.declared.verdicts.Verdict.TheVariants.{Plain, Abandoned}
 use Rattle.st_events.specs.History.{own_events}
 use Rattle.st_events.specs.Ran.{RanLists}
 use Rattle.st_parse.specs.declared.programs.SmallStmt.{SmallStmt}
 use Rattle.st_parse.specs.declared.programs.SmallStmt.TheVariants.{Make, Put, Check}
 use Rattle.st_parse.specs.Small.{SmallLists}
 use Rattle.st_top.specs.Texts.{site_text, verdict_text, end_text}
-use Rattle.st_top.specs.declared.statuses.TheConstants.{STATUS_HOLDS, STATUS_CHECK_FAILS}
+use Rattle.st_top.specs.declared.statuses.TheConstants.{STATUS_HOLDS, STATUS_CHECK_FAILS, STATUS_UNFINISHED, STATUS_UNDECIDED}
 
 -- what a report takes of a program: the names of its threads, and the places of its check statements, both in source order
 pub record Heads : Type 0 where
@@ -96,6 +97,30 @@ report_text heads ran = joined (report_lines heads ran)
 abbrev pub some_fails : List Verdict → Bool
 some_fails verdicts = list_any is_fails verdicts
 
--- the status of a run: whether some check fails
+-- a thread that does not come to its end
+abbrev pub is_unfinished : End → Bool
+is_unfinished Finished = false
+is_unfinished _ = true
+
+-- a check that fails, or whose evaluation met a null, a division by 0, or a number that does not fit
+abbrev pub is_fault : Verdict → Bool
+is_fault (Plain Fails) = true
+is_fault (Plain (Null site)) = true
+is_fault (Plain (Divide site)) = true
+is_fault (Plain (Overflow site)) = true
+is_fault _ = false
+
+-- a check without an answer: its evaluation was cut off, or needed a version that was lost
+abbrev pub is_undecided : Verdict → Bool
+is_undecided (Plain Spent) = true
+is_undecided (Plain Deep) = true
+is_undecided (Abandoned obj) = true
+is_undecided _ = false
+
+-- the status of a run: the first that applies of a thread that does not come to its end, a check at fault, and a check
+-- without an answer
 unfoldable pub run_status : RanLists → ℕ
-run_status ran = if some_fails ran.verdicts then STATUS_CHECK_FAILS else STATUS_HOLDS
+run_status ran =
+    if list_any is_unfinished ran.ends then STATUS_UNFINISHED
+    else (if list_any is_fault ran.verdicts then STATUS_CHECK_FAILS
+    else (if list_any is_undecided ran.verdicts then STATUS_UNDECIDED else STATUS_HOLDS))

@@ -4,7 +4,7 @@ ghost use Rattle.st_io.specs.Counts.{RoseBy};
 ghost use Rattle.st_top.specs.Causes.{HasCause};
 ghost use Rattle.st_top.specs.Outcomes.{IsReported, IsRefused, IsRefusedExactly, IsStatusOfRun};
 ghost use Rattle.st_top.specs.Report.{some_fails};
-ghost use Rattle.st_top.specs.Sources.{IsRunOf, IsAccepted, source_of};
+ghost use Rattle.st_top.specs.Sources.{HasReport, IsRunOfText, IsAccepted, source_of};
 ghost use Rattle.st_top.specs.Words.{named_file, texts};
 
 use crate::outcomes::Outcome;
@@ -58,15 +58,23 @@ pub fn strobe<R: Threads + Wait + Sync, F: Files, S: Sink, P: Pace + Sync>(
     answer(alloc, words, files, out)
 }
 
-/// The same over one text, which is that of every file, and a sink that takes everything: no device can fail.
+/// The same over one text, which is that of every file, and a sink that takes everything and keeps nothing: no device can
+/// fail, and each answer but want of memory has its exact cause.
 pub fn strobe_on_text<R: Threads + Wait + Sync>(
     rt: &R,
     alloc: Global,
     words: &[String],
     text: Vec<u8>,
 ) -> Outcome
+    ensures words { (result.status ≡ STATUS_WORDS) ↔ (named_file (texts words.now) ≡ None) }
+    ensures source { IsSome (named_file (texts words.now)) → IsRefusedExactly text.items result.status }
     ensures no_read_fault { result.status ≢ STATUS_READ_FAULT }
     ensures no_write_fault { result.status ≢ STATUS_WRITE_FAULT }
+
+    // There is a run with the statuses 0 and 1: a right one of the text, and 1 says that some check fails.
+    ensures ran { IsSome result.ran ↔ IsStatusOfRun result.status }
+    ensures right { IfSome result.ran (λ ran. IsRunOfText text.items ran) }
+    ensures check_fails { IfSome result.ran (λ ran. (result.status ≡ STATUS_CHECK_FAILS) ↔ IsTrue (some_fails ran.verdicts)) }
 
     // With words and a source that are accepted there is a run, or there was no memory.
     ensures accepted { IsSome (named_file (texts words.now)) → IsAccepted text.items
@@ -93,7 +101,8 @@ fn answer<F: Files, S: Sink>(alloc: Global, words: &[String], files: &mut F, out
 
 /// Runs the source that the words name.
 fn run_words<F: Files>(alloc: Global, words: &[String], files: &mut F) -> Result<Finished, Refusal>
-    ensures right { IfOk result (λ finished. IsRunOf (named_file (texts words.now)) (source_of (F.told files.old) (texts words.now)) finished.ran finished.report) }
+    ensures named { IfOk result (λ _. IsSome (named_file (texts words.now))) }
+    ensures right { IfOk result (λ finished. HasReport (source_of (F.told files.old) (texts words.now)) finished.ran finished.report) }
     ensures cause { IfErr result (λ refusal. HasCause (named_file (texts words.now)) (source_of (F.told files.old) (texts words.now))
         (record { faults = F.faults files.old; taken = F.taken files.old })
         (record { faults = F.faults files.new; taken = F.taken files.new }) refusal) }

@@ -18,7 +18,9 @@ mod writing;
 
 pub use calls::{strobe, strobe_on_text};
 pub use outcomes::Outcome;
+pub use refusals::Refusal;
 pub use statuses::{
     STATUS_CHECK_FAILS, STATUS_HOLDS, STATUS_NO_MEMORY, STATUS_READ_FAULT, STATUS_SOURCE,
-    STATUS_WORDS, STATUS_WRITE_FAULT,
+    STATUS_UNDECIDED, STATUS_UNFINISHED, STATUS_WORDS, STATUS_WRITE_FAULT,
 };
+pub use writing::refuse;

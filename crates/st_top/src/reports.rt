@@ -8,11 +8,9 @@ ghost use Rattle.st_top.specs.LineBytes.{line_bytes, lines_text};
 use crate::lines::{check_line, count_line, thread_line};
 use st_events::{End, Event, NoMemory, Ran, Site, Verdict};
 use st_parse::{Small, SmallStmt};
+use st_small::ONLY_THREAD;
 use std::alloc::Global;
 use std::marker::Model;
-
-/// The one thread of a small program.
-pub const ONLY_THREAD: u8 = 0;
 
 /// The lines of a report, each with its newline. Contracts see the list of their bytes.
 #[derive(Debug, Drop)]

@@ -1,7 +1,7 @@
 //! From the name of a file to a run of the source in it.
-ghost use Rattle.std.specs.Prelude.{◌≡◌, ◌≤◌, [], length, IfOk, IfErr, IfSome, Some};
+ghost use Rattle.std.specs.Prelude.{◌≡◌, ◌≤◌, length, IfOk, IfErr, IfSome, Some};
 ghost use Rattle.st_top.specs.Causes.{HasCause, IsBuildRefusal};
-ghost use Rattle.st_top.specs.Sources.{IsRunOf};
+ghost use Rattle.st_top.specs.Sources.{HasReport};
 
 use crate::refusals::Refusal;
 use crate::reports::Report;
@@ -37,7 +37,7 @@ fn read_source<F: Files>(alloc: Global, files: &mut F, name: &str) -> Result<Vec
 /// Runs the source with the usual sizes. All memory for its report is had before any of it is written.
 fn run_source(alloc: Global, text: &[u8]) -> Result<Finished, Refusal>
     requires { length text.now ≤ MOST_SOURCE_BYTES }
-    ensures right { IfOk result (λ finished. IsRunOf (Some []) (Some text.now) finished.ran finished.report) }
+    ensures right { IfOk result (λ finished. HasReport (Some text.now) finished.ran finished.report) }
     ensures refused { IfErr result (IsBuildRefusal text.now) }
 {
     let small = small(alloc, text)?;
@@ -52,7 +52,7 @@ pub(crate) fn run_file<F: Files>(
     files: &mut F,
     name: &str,
 ) -> Result<Finished, Refusal>
-    ensures right { IfOk result (λ finished. IsRunOf (Some name.now) (F.told files.old name.now) finished.ran finished.report) }
+    ensures right { IfOk result (λ finished. HasReport (F.told files.old name.now) finished.ran finished.report) }
     ensures cause { IfErr result (λ refusal. HasCause (Some name.now) (F.told files.old name.now)
         (record { faults = F.faults files.old; taken = F.taken files.old })
         (record { faults = F.faults files.new; taken = F.taken files.new }) refusal) }

@@ -1,9 +1,10 @@
-//! What verdicts come to: how many checks hold, fail, or have another verdict.
+//! What verdicts come to: how many checks hold, fail, or have another verdict, and the status of a run.
 ghost use Rattle.std.specs.Prelude.{◌≡◌, count_by};
-ghost use Rattle.st_top.specs.Report.{is_holds as is_holds_of, is_fails as is_fails_of, is_other as is_other_of, some_fails as some_fails_of, run_status as run_status_of};
+ghost use Rattle.std.specs.List.{list_any};
+ghost use Rattle.st_top.specs.Report.{is_holds as is_holds_of, is_fails as is_fails_of, is_other as is_other_of, is_unfinished as is_unfinished_of, is_fault as is_fault_of, is_undecided as is_undecided_of, run_status as run_status_of};
 
-use crate::statuses::{STATUS_CHECK_FAILS, STATUS_HOLDS};
-use st_events::{Plain, Ran, Verdict};
+use crate::statuses::{STATUS_CHECK_FAILS, STATUS_HOLDS, STATUS_UNDECIDED, STATUS_UNFINISHED};
+use st_events::{End, Plain, Ran, Verdict};
 
 /// Whether the check holds.
 fn is_holds(verdict: Verdict) -> bool
@@ -49,11 +50,56 @@ pub(crate) fn count_other(verdicts: &[Verdict]) -> usize
         .count()
 }
 
-/// Whether some check fails.
-fn some_fails(verdicts: &[Verdict]) -> bool
-    ensures { result ≡ some_fails_of verdicts.now }
+/// Whether a thread does not come to its end.
+fn is_unfinished(end: End) -> bool
+    ensures { result ≡ is_unfinished_of end }
 {
-    verdicts.iter().any(|verdict| is_fails(*verdict))
+    !matches!(end, End::Finished)
+}
+
+/// Whether the check fails, or its evaluation met a null, a division by 0, or a number that does not fit.
+fn is_fault(verdict: Verdict) -> bool
+    ensures { result ≡ is_fault_of verdict }
+{
+    match verdict {
+        Verdict::Plain(Plain::Fails | Plain::Null(_) | Plain::Divide(_) | Plain::Overflow(_)) => {
+            true
+        }
+        Verdict::Plain(Plain::Holds | Plain::Spent | Plain::Deep) | Verdict::Abandoned { .. } => {
+            false
+        }
+    }
+}
+
+/// Whether the check has no answer: its evaluation was cut off, or needed a version that was lost.
+fn is_undecided(verdict: Verdict) -> bool
+    ensures { result ≡ is_undecided_of verdict }
+{
+    matches!(
+        verdict,
+        Verdict::Plain(Plain::Spent | Plain::Deep) | Verdict::Abandoned { .. }
+    )
+}
+
+/// Whether some thread does not come to its end.
+fn some_unfinished(ends: &[End]) -> bool
+    ensures { result ≡ list_any is_unfinished_of ends.now }
+{
+    ends.iter().any(|end| is_unfinished(*end))
+}
+
+/// Whether some check is at fault.
+fn some_fault(verdicts: &[Verdict]) -> bool
+    ensures { result ≡ list_any is_fault_of verdicts.now }
+{
+    verdicts.iter().any(|verdict| is_fault(*verdict))
+}
+
+/// Whether some check has no answer.
+fn some_undecided(verdicts: &[Verdict]) -> bool
+    ensures { result ≡ list_any is_undecided_of verdicts.now }
+{
+    verdicts.iter().any(|verdict| is_undecided(*verdict))
 }
 
 /// The status of a run whose report was written whole.
@@ -61,8 +107,12 @@ fn some_fails(verdicts: &[Verdict]) -> bool
 pub(crate) fn run_status(ran: &Ran) -> u8
     ensures { result ≡ run_status_of ran.now }
 {
-    if some_fails(&ran.verdicts) {
+    if some_unfinished(&ran.ends) {
+        STATUS_UNFINISHED
+    } else if some_fault(&ran.verdicts) {
         STATUS_CHECK_FAILS
+    } else if some_undecided(&ran.verdicts) {
+        STATUS_UNDECIDED
     } else {
         STATUS_HOLDS
     }

@@ -32,8 +32,9 @@ pub(crate) fn publish<S: Sink>(finished: Finished, out: &mut S) -> Outcome
     }
 }
 
-/// Writes the line of a refusal. Where that fails, the refusal stands all the same.
-pub(crate) fn refuse<S: Sink>(refusal: Refusal, out: &mut S) -> Outcome
+/// Writes the line of a refusal, which is all that a call without a run writes. Where that fails, the refusal stands all
+/// the same. The program calls it where there is no memory for the words that `strobe` takes.
+pub fn refuse<S: Sink>(refusal: Refusal, out: &mut S) -> Outcome
     ensures ran { result.ran ≡ None }
     ensures status { result.status ≡ refused_status refusal }
     ensures line { IsLinePut (line_of refusal) (S.written out.old) (S.written out.new) (S.faults out.old) (S.faults out.new) }
