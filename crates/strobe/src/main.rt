@@ -2,24 +2,32 @@
 #![tactic(auto)]
 
 use st_io::{NoPace, RealFiles, RealSink};
-use st_top::strobe;
+use st_top::{Refusal, refuse, strobe};
+use std::alloc::AllocError;
+use std::env;
 use std::process::ExitCode;
-use std::{env, io};
 
-/// The words of the command line, without the program's name.
-fn command_words(rt: &HostRuntime) -> io::Result<Vec<String>> {
+/// The words of the command line, without the program's name. Where the system cannot give them there are none, which are
+/// wrong words. The error is that there is no memory for them.
+fn command_words(rt: &HostRuntime) -> Result<Vec<String>, AllocError> {
     let mut words = Vec::new(rt.alloc());
-    for word in env::args(rt)?.skip(1) {
+    let Ok(given) = env::args(rt) else {
+        return Ok(words);
+    };
+    for word in given.skip(1) {
         words.push(word)?;
     }
     Ok(words)
 }
 
 fn main(rt: HostRuntime) -> ExitCode {
-    // Words that the system cannot give are wrong words, as none are.
-    let words = command_words(&rt).unwrap_or(Vec::new(rt.alloc()));
-    let mut files = RealFiles::make(&rt);
     let mut out = RealSink::make(&rt);
-    let outcome = strobe(&rt, rt.alloc(), &words, &mut files, &mut out, &NoPace);
+    let outcome = match command_words(&rt) {
+        Ok(words) => {
+            let mut files = RealFiles::make(&rt);
+            strobe(&rt, rt.alloc(), &words, &mut files, &mut out, &NoPace)
+        }
+        Err(_) => refuse(Refusal::NoMemory, &mut out),
+    };
     ExitCode::from(outcome.status)
 }
