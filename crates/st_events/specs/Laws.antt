@@ -11,8 +11,14 @@ use Rattle.st_events.specs.Sound.{Extends, IsSound}
 
 -- one event more makes of a journal's world its next, and keeps it legal where the event is legal after it
 pub record GrowByEvents : Type 0 where
-  pub world : (shape : ShapeLists) (sizes : Sizes) (es : List Event) (e : Event) → world_after shape sizes (es ++ e ∷ []) ≡ next shape sizes (world_after shape sizes es) e
-  pub legal : (shape : ShapeLists) (sizes : Sizes) (es : List Event) (e : Event) → IsLegal shape sizes es → IsLegalNext shape sizes (world_after shape sizes es) e → IsLegal shape sizes (es ++ e ∷ [])
+  pub world :
+      (shape : ShapeLists) (sizes : Sizes) (es : List Event) (e : Event)
+      → world_after shape sizes (es ++ e ∷ []) ≡ next shape sizes (world_after shape sizes es) e
+  pub legal :
+      (shape : ShapeLists) (sizes : Sizes) (es : List Event) (e : Event)
+      → IsLegal shape sizes es
+      → IsLegalNext shape sizes (world_after shape sizes es) e
+      → IsLegal shape sizes (es ++ e ∷ [])
 
 -- a prefix of a legal journal is legal
 abbrev pub HaveLegalPrefixes : Type 0
@@ -20,17 +26,37 @@ HaveLegalPrefixes = (shape : ShapeLists) (sizes : Sizes) (es fs : List Event) �
 
 -- after every legal journal the heap is typed, launches count from 1, active checks have lanes, and copies are in order
 abbrev pub AreSound : Type 0
-AreSound = (shape : ShapeLists) (sizes : Sizes) → IsWithinLimits shape → (es : List Event) → IsLegal shape sizes es → IsSound shape sizes (world_after shape sizes es)
+AreSound =
+    (shape : ShapeLists) (sizes : Sizes) → IsWithinLimits shape
+    → (es : List Event)
+    → IsLegal shape sizes es → IsSound shape sizes (world_after shape sizes es)
 
 -- a cell stays in every legal extension, in an object of the same class; so does what is known of a launch, and a lost version
 pub record KeepThePast : Type 0 where
-  pub cells : (shape : ShapeLists) (sizes : Sizes) → IsWithinLimits shape → (es fs : List Event) → IsLegal shape sizes (es ++ fs) → Extends (heap_after shape sizes es) (heap_after shape sizes (es ++ fs))
-  pub launches : (shape : ShapeLists) (sizes : Sizes) → IsWithinLimits shape → (es fs : List Event) (n : ℕ) (launch : Launched) → IsLegal shape sizes (es ++ fs) → launch_of shape sizes es n ≡ Some launch → launch_of shape sizes (es ++ fs) n ≡ Some launch
-  pub lost : (shape : ShapeLists) (sizes : Sizes) (es fs : List Event) (obj n : ℕ) → is_lost (lost_pairs shape sizes es) obj n ≡ true → is_lost (lost_pairs shape sizes (es ++ fs)) obj n ≡ true
+  pub cells :
+      (shape : ShapeLists) (sizes : Sizes) → IsWithinLimits shape
+      → (es fs : List Event)
+      → IsLegal shape sizes (es ++ fs)
+      → Extends (heap_after shape sizes es) (heap_after shape sizes (es ++ fs))
+  pub launches :
+      (shape : ShapeLists) (sizes : Sizes) → IsWithinLimits shape
+      → (es fs : List Event) (n : ℕ) (launch : Launched)
+      → IsLegal shape sizes (es ++ fs)
+      → launch_of shape sizes es n ≡ Some launch
+      → launch_of shape sizes (es ++ fs) n ≡ Some launch
+  pub lost :
+      (shape : ShapeLists) (sizes : Sizes) (es fs : List Event) (obj n : ℕ)
+      → is_lost (lost_pairs shape sizes es) obj n ≡ true
+      → is_lost (lost_pairs shape sizes (es ++ fs)) obj n ≡ true
 
 -- a pool of at least `lanes * (objects + 1)` copies, for the objects of the whole journal, never loses a version
 abbrev pub LoseNothing : Type 0
-LoseNothing = (shape : ShapeLists) (sizes : Sizes) → IsWithinLimits shape → (es : List Event) → IsLegal shape sizes es → sizes.lanes * (objects_of es + 1) ≤ sizes.copies → lost_pairs shape sizes es ≡ []
+LoseNothing =
+    (shape : ShapeLists) (sizes : Sizes) → IsWithinLimits shape
+    → (es : List Event)
+    → IsLegal shape sizes es
+    → sizes.lanes * (objects_of es + 1) ≤ sizes.copies
+    → lost_pairs shape sizes es ≡ []
 
 -- a check that is known as launched was launched by an event of the journal, and its past is the heap before that event; what is
 -- known of a check is what its Launch says, wherever in a legal journal it stands; and each number is launched at one place alone
