@@ -1,15 +1,17 @@
--- Small journals, on which the definitions of copies kept and versions lost are computed
-use Rattle.std.proofs.Common.{◌≡◌, ℕ, [], ◌∷◌, Some, refl}
+-- Small journals, on which the definitions of a journal's history are computed: copies kept and versions lost, stamps, active
+-- checks, launches, and the events of a thread
+use Rattle.std.proofs.Common.{◌≡◌, ℕ, true, false, List, [], ◌∷◌, Option, Some, None, refl}
+use Rattle.std.specs.Option.{option_map}
 use Rattle.st_events.specs.declared.events.Event.{Event}
-use Rattle.st_events.specs.declared.events.Event.TheVariants.{New, Load, Store, Launch, Retire}
+use Rattle.st_events.specs.declared.events.Event.TheVariants.{New, Load, Store, Cas, Launch, Retire}
 use Rattle.st_events.specs.declared.limits.Sizes.{Sizes}
 use Rattle.st_events.specs.declared.reasons.Why.TheVariants.{NoLane, WrongField}
 use Rattle.st_events.specs.declared.shapes.Kind.TheVariants.{Int}
 use Rattle.st_events.specs.Shape.{ShapeLists}
 use Rattle.st_events.specs.Heap.{word_at}
-use Rattle.st_events.specs.World.{world_after, first_world}
+use Rattle.st_events.specs.World.{Launched, world_after, first_world}
 use Rattle.st_events.specs.Legal.{illegal_reason}
-use Rattle.st_events.specs.History.{heap_after, kept_rows, lost_pairs}
+use Rattle.st_events.specs.History.{heap_after, epoch_of, stamp_of, active_checks, needing, kept_rows, lost_pairs, launch_of, own_events, objects_of}
 
 -- one shared number, a class of one number, and a check without arguments
 abbrev shape : ShapeLists
@@ -61,3 +63,122 @@ live_word = refl
 -- a field that the shared object does not have
 no_such_field : illegal_reason shape (sizes 1) (first_world shape) (Load 0 1 1 0) ≡ Some WrongField
 no_such_field = refl
+
+-- ---- stamps, active checks, and the checks that need a copy
+
+-- the journals of two checks: no store, one after both launches, one between them, and one after each
+abbrev two_launches : List Event
+two_launches = launch 1 ∷ launch 2 ∷ []
+
+abbrev then_a_store : List Event
+then_a_store = launch 1 ∷ launch 2 ∷ Store 0 1 0 5 ∷ []
+
+abbrev store_between : List Event
+store_between = launch 1 ∷ Store 0 1 0 5 ∷ launch 2 ∷ []
+
+abbrev two_stores : List Event
+two_stores = launch 1 ∷ Store 0 1 0 5 ∷ launch 2 ∷ Store 0 1 0 6 ∷ []
+
+-- the epoch counts launches, and a Retire does not take one back
+no_epoch : epoch_of shape (sizes 4) [] ≡ 0
+no_epoch = refl
+
+second_epoch : epoch_of shape (sizes 4) two_stores ≡ 2
+second_epoch = refl
+
+epoch_after_retire : epoch_of shape (sizes 4) (launch 1 ∷ Retire 0 1 ∷ []) ≡ 1
+epoch_after_retire = refl
+
+-- the shared object has stamp 0 until it changes; a change makes its stamp the epoch, and a later launch does not
+stamp_before_change : stamp_of shape (sizes 4) two_launches 1 ≡ 0
+stamp_before_change = refl
+
+stamp_at_change : stamp_of shape (sizes 4) then_a_store 1 ≡ 2
+stamp_at_change = refl
+
+stamp_after_launch : stamp_of shape (sizes 4) store_between 1 ≡ 1
+stamp_after_launch = refl
+
+stamp_at_second_change : stamp_of shape (sizes 4) two_stores 1 ≡ 2
+stamp_at_second_change = refl
+
+-- a Load is no change, a Cas is one only where it is done
+stamp_after_load : stamp_of shape (sizes 4) (launch 1 ∷ Load 0 1 0 0 ∷ []) 1 ≡ 0
+stamp_after_load = refl
+
+stamp_after_cas : stamp_of shape (sizes 4) (launch 1 ∷ Cas 0 1 0 0 5 true ∷ []) 1 ≡ 1
+stamp_after_cas = refl
+
+stamp_after_failed_cas : stamp_of shape (sizes 4) (launch 1 ∷ Cas 0 1 0 7 5 false ∷ []) 1 ≡ 0
+stamp_after_failed_cas = refl
+
+-- an object has the epoch of its New, and the change of another object leaves it
+stamp_at_new : stamp_of shape (sizes 4) (launch 1 ∷ New 0 2 1 ∷ launch 2 ∷ Store 0 1 0 5 ∷ []) 2 ≡ 1
+stamp_at_new = refl
+
+-- active checks stand in the order of their launches, and a Retire takes out its own
+both_active : active_checks shape (sizes 4) then_a_store ≡ 1 ∷ 2 ∷ []
+both_active = refl
+
+second_active : active_checks shape (sizes 4) (launch 1 ∷ launch 2 ∷ Retire 0 1 ∷ []) ≡ 2 ∷ []
+second_active = refl
+
+first_active : active_checks shape (sizes 4) (launch 1 ∷ launch 2 ∷ Retire 0 2 ∷ []) ≡ 1 ∷ []
+first_active = refl
+
+-- before a change each active check needs a copy; after it none does, but for those launched later
+both_need : needing shape (sizes 4) two_launches 1 ≡ 1 ∷ 2 ∷ []
+both_need = refl
+
+none_needs : needing shape (sizes 4) then_a_store 1 ≡ []
+none_needs = refl
+
+second_needs : needing shape (sizes 4) store_between 1 ≡ 2 ∷ []
+second_needs = refl
+
+retired_needs_none : needing shape (sizes 4) (launch 1 ∷ launch 2 ∷ Retire 0 1 ∷ []) 1 ≡ 2 ∷ []
+retired_needs_none = refl
+
+-- a check launched before an object was made needs no copy of it, one launched after it does
+none_needs_new : needing shape (sizes 4) (launch 1 ∷ New 0 2 1 ∷ []) 2 ≡ []
+none_needs_new = refl
+
+later_needs_new : needing shape (sizes 4) (launch 1 ∷ New 0 2 1 ∷ launch 2 ∷ []) 2 ≡ 2 ∷ []
+later_needs_new = refl
+
+-- ---- launches
+
+-- the past of a check is the heap before its Launch: the first store is in that of the second check, the second store in neither
+abbrev past_word : ℕ → Launched → Option ℕ
+past_word obj launch = word_at launch.past obj 0
+
+past_of_first : option_map (past_word 1) (launch_of shape (sizes 4) two_stores 1) ≡ Some (Some 0)
+past_of_first = refl
+
+past_of_second : option_map (past_word 1) (launch_of shape (sizes 4) two_stores 2) ≡ Some (Some 5)
+past_of_second = refl
+
+not_launched : launch_of shape (sizes 4) two_stores 3 ≡ None
+not_launched = refl
+
+-- ---- events of a thread, and objects
+
+-- two threads; the Retire is nobody's own
+abbrev of_two_threads : List Event
+of_two_threads = New 0 2 1 ∷ Load 1 1 0 0 ∷ launch 1 ∷ Store 1 1 0 5 ∷ Cas 1 2 0 0 6 true ∷ Retire 0 1 ∷ New 1 6 1 ∷ []
+
+own_of_first : own_events 0 of_two_threads ≡ New 0 2 1 ∷ launch 1 ∷ []
+own_of_first = refl
+
+own_of_second : own_events 1 of_two_threads ≡ Load 1 1 0 0 ∷ Store 1 1 0 5 ∷ Cas 1 2 0 0 6 true ∷ New 1 6 1 ∷ []
+own_of_second = refl
+
+own_of_none : own_events 2 of_two_threads ≡ []
+own_of_none = refl
+
+-- the shared object, and one for each New
+only_shared : objects_of then_a_store ≡ 1
+only_shared = refl
+
+two_made : objects_of of_two_threads ≡ 3
+two_made = refl

@@ -6,6 +6,7 @@ mod Examples
 pub mod ExtendsLemmas
 pub mod HeapLemmas
 pub mod KeptLemmas
+pub mod LaunchLemmas
 pub mod LegalLemmas
 pub mod PoolLemmas
 mod ReplayLemmas

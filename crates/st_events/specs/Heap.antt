@@ -1,5 +1,6 @@
 use Rattle.std.specs.Prelude.{ℕ, ◌==◌, cond, List, map, slice_get, slice_set, Option, Some, None, option_map}
 use Rattle.std.specs.Option.{option_flatten}
+use Rattle.st_events.specs.declared.heaps.TheConstants.{SHARED_OBJECT}
 use Rattle.st_events.specs.Shape.{ShapeLists, kinds_of}
 
 -- an object: the number of its class, and one word for each field of that class
@@ -7,7 +8,7 @@ pub record Object : Type 0 where
   pub class : ℕ
   pub words : List ℕ
 
--- a heap: the object that stands at each number, where one was made. Number 0 is null, and object 1 is the shared one
+-- a heap: the object that stands at each number, where one was made. Number 0 is null, and SHARED_OBJECT the shared object's
 abbrev pub Heap : Type 0
 Heap = ℕ → Option Object
 
@@ -42,7 +43,7 @@ fresh shape class = record { class = class; words = map (λ _. 0) (kinds_of shap
 
 -- the heap before the first event: the shared object alone, of class 0
 abbrev pub first_heap : ShapeLists → Heap
-first_heap shape = λ o. cond (o == 1) (Some (fresh shape 0)) None
+first_heap shape = λ o. cond (o == SHARED_OBJECT) (Some (fresh shape 0)) None
 
 -- the heap of a list that has at each number the object, if one was made; past its end there is none
 abbrev pub heap_of : List (Option Object) → Heap

@@ -1,4 +1,4 @@
-use Rattle.std.specs.Prelude.{ℕ, ◌+◌, ◌==◌, Bool, true, false, List, length, filter, Option}
+use Rattle.std.specs.Prelude.{◌≡◌, ℕ, ◌+◌, ◌==◌, Bool, true, false, List, ◌∷◌, ◌++◌, length, filter, Option}
 use Rattle.st_events.specs.declared.events.Event.{Event}
 use Rattle.st_events.specs.declared.events.Event.TheVariants.{New, Load, Store, Cas, Launch, Retire}
 use Rattle.st_events.specs.declared.limits.Sizes.{Sizes}
@@ -37,6 +37,14 @@ lost_pairs shape sizes es = (world_after shape sizes es).lost
 -- the launch of a check, if it was launched
 abbrev pub launch_of : ShapeLists → Sizes → List Event → ℕ → Option Launched
 launch_of shape sizes es number = (world_after shape sizes es).launched number
+
+-- the check was launched by an event of the journal, of this thread, statement and arguments, and its past is the heap after
+-- the events before that one
+pub record IsLaunchIn (shape : ShapeLists) (sizes : Sizes) (es : List Event) (number : ℕ) (launch : Launched) : Type 0 where
+  pub before : List Event
+  pub rest : List Event
+  pub split : es ≡ before ++ Launch launch.thread number launch.site launch.args ∷ rest
+  pub past : launch.past ≡ heap_after shape sizes before
 
 -- whether the event is an own one of the thread; a Retire is nobody's own
 abbrev pub is_own : ℕ → Event → Bool

@@ -1,16 +1,24 @@
 use Rattle.std.specs.Prelude.{◌≡◌, ℕ, ◌*◌, ◌+◌, ◌≤◌, true, List, [], ◌∷◌, ◌++◌, Some}
+use Rattle.st_events.specs.declared.events.Args.{Args}
 use Rattle.st_events.specs.declared.events.Event.{Event}
+use Rattle.st_events.specs.declared.events.Event.TheVariants.{Launch}
 use Rattle.st_events.specs.declared.limits.Sizes.{Sizes}
 use Rattle.st_events.specs.Shape.{ShapeLists, IsWithinLimits}
 use Rattle.st_events.specs.World.{Launched, next, world_after, is_lost}
 use Rattle.st_events.specs.Legal.{IsLegal, IsLegalNext}
-use Rattle.st_events.specs.History.{heap_after, launch_of, lost_pairs, objects_of}
+use Rattle.st_events.specs.History.{heap_after, launch_of, IsLaunchIn, lost_pairs, objects_of}
 use Rattle.st_events.specs.Sound.{Extends, IsSound}
 
 -- one event more makes of a journal's world its next, and keeps it legal where the event is legal after it
 pub record GrowByEvents : Type 0 where
-  pub world : (shape : ShapeLists) (sizes : Sizes) (es : List Event) (e : Event) → world_after shape sizes (es ++ e ∷ []) ≡ next shape sizes (world_after shape sizes es) e
-  pub legal : (shape : ShapeLists) (sizes : Sizes) (es : List Event) (e : Event) → IsLegal shape sizes es → IsLegalNext shape sizes (world_after shape sizes es) e → IsLegal shape sizes (es ++ e ∷ [])
+  pub world :
+      (shape : ShapeLists) (sizes : Sizes) (es : List Event) (e : Event)
+      → world_after shape sizes (es ++ e ∷ []) ≡ next shape sizes (world_after shape sizes es) e
+  pub legal :
+      (shape : ShapeLists) (sizes : Sizes) (es : List Event) (e : Event)
+      → IsLegal shape sizes es
+      → IsLegalNext shape sizes (world_after shape sizes es) e
+      → IsLegal shape sizes (es ++ e ∷ [])
 
 -- a prefix of a legal journal is legal
 abbrev pub HaveLegalPrefixes : Type 0
@@ -18,14 +26,54 @@ HaveLegalPrefixes = (shape : ShapeLists) (sizes : Sizes) (es fs : List Event) �
 
 -- after every legal journal the heap is typed, launches count from 1, active checks have lanes, and copies are in order
 abbrev pub AreSound : Type 0
-AreSound = (shape : ShapeLists) (sizes : Sizes) → IsWithinLimits shape → (es : List Event) → IsLegal shape sizes es → IsSound shape sizes (world_after shape sizes es)
+AreSound =
+    (shape : ShapeLists) (sizes : Sizes) → IsWithinLimits shape
+    → (es : List Event)
+    → IsLegal shape sizes es → IsSound shape sizes (world_after shape sizes es)
 
 -- a cell stays in every legal extension, in an object of the same class; so does what is known of a launch, and a lost version
 pub record KeepThePast : Type 0 where
-  pub cells : (shape : ShapeLists) (sizes : Sizes) → IsWithinLimits shape → (es fs : List Event) → IsLegal shape sizes (es ++ fs) → Extends (heap_after shape sizes es) (heap_after shape sizes (es ++ fs))
-  pub launches : (shape : ShapeLists) (sizes : Sizes) → IsWithinLimits shape → (es fs : List Event) (n : ℕ) (launch : Launched) → IsLegal shape sizes (es ++ fs) → launch_of shape sizes es n ≡ Some launch → launch_of shape sizes (es ++ fs) n ≡ Some launch
-  pub lost : (shape : ShapeLists) (sizes : Sizes) (es fs : List Event) (obj n : ℕ) → is_lost (lost_pairs shape sizes es) obj n ≡ true → is_lost (lost_pairs shape sizes (es ++ fs)) obj n ≡ true
+  pub cells :
+      (shape : ShapeLists) (sizes : Sizes) → IsWithinLimits shape
+      → (es fs : List Event)
+      → IsLegal shape sizes (es ++ fs)
+      → Extends (heap_after shape sizes es) (heap_after shape sizes (es ++ fs))
+  pub launches :
+      (shape : ShapeLists) (sizes : Sizes) → IsWithinLimits shape
+      → (es fs : List Event) (n : ℕ) (launch : Launched)
+      → IsLegal shape sizes (es ++ fs)
+      → launch_of shape sizes es n ≡ Some launch
+      → launch_of shape sizes (es ++ fs) n ≡ Some launch
+  pub lost :
+      (shape : ShapeLists) (sizes : Sizes) (es fs : List Event) (obj n : ℕ)
+      → is_lost (lost_pairs shape sizes es) obj n ≡ true
+      → is_lost (lost_pairs shape sizes (es ++ fs)) obj n ≡ true
 
 -- a pool of at least `lanes * (objects + 1)` copies, for the objects of the whole journal, never loses a version
 abbrev pub LoseNothing : Type 0
-LoseNothing = (shape : ShapeLists) (sizes : Sizes) → IsWithinLimits shape → (es : List Event) → IsLegal shape sizes es → sizes.lanes * (objects_of es + 1) ≤ sizes.copies → lost_pairs shape sizes es ≡ []
+LoseNothing =
+    (shape : ShapeLists) (sizes : Sizes) → IsWithinLimits shape
+    → (es : List Event)
+    → IsLegal shape sizes es
+    → sizes.lanes * (objects_of es + 1) ≤ sizes.copies
+    → lost_pairs shape sizes es ≡ []
+
+-- a check that is known as launched was launched by an event of the journal, and its past is the heap before that event; what is
+-- known of a check is what its Launch says, wherever in a legal journal it stands; and each number is launched at one place alone
+pub record TellOfLaunches : Type 0 where
+  pub found :
+      (shape : ShapeLists) (sizes : Sizes) (es : List Event) (n : ℕ) (launch : Launched)
+      → launch_of shape sizes es n ≡ Some launch
+      → IsLaunchIn shape sizes es n launch
+  pub known :
+      (shape : ShapeLists) (sizes : Sizes) → IsWithinLimits shape
+      → (before rest : List Event) (thread n site : ℕ) (args : Args)
+      → IsLegal shape sizes (before ++ Launch thread n site args ∷ rest)
+      → launch_of shape sizes (before ++ Launch thread n site args ∷ rest) n
+      ≡ Some (record { past = heap_after shape sizes before; thread = thread; site = site; args = args })
+  pub one_place :
+      (shape : ShapeLists) (sizes : Sizes)
+      → (before rest before' rest' : List Event) (n thread site thread' site' : ℕ) (args args' : Args)
+      → IsLegal shape sizes (before ++ Launch thread n site args ∷ rest)
+      → before ++ Launch thread n site args ∷ rest ≡ before' ++ Launch thread' n site' args' ∷ rest'
+      → before ≡ before'

@@ -1,8 +1,10 @@
-use Rattle.std.specs.Prelude.{◌≡◌, ℕ, ◌+◌, ◌*◌, ◌==◌, nat_lt, nat_le, Bool, true, false, not, ◌&&◌, ◌||◌, cond, List, [], ◌∷◌, ◌++◌, length, drop, Option, Some, None, is_some, slice_get}
+use Rattle.std.specs.Prelude.{◌≡◌, ℕ, ◌+◌, ◌*◌, ◌==◌, nat_lt, nat_le, Bool, true, false, not, ◌&&◌, ◌||◌, cond}
+use Rattle.std.specs.Prelude.{List, [], ◌∷◌, ◌++◌, length, drop, Option, Some, None, is_some, slice_get}
 use Rattle.std.specs.List.{list_all}
 use Rattle.st_events.specs.declared.events.Event.{Event}
 use Rattle.st_events.specs.declared.events.Event.TheVariants.{New, Load, Store, Cas, Launch, Retire}
 use Rattle.st_events.specs.declared.events.Args.{Args}
+use Rattle.st_events.specs.declared.heaps.TheConstants.{FIRST_OF_REGIONS}
 use Rattle.st_events.specs.declared.limits.Sizes.{Sizes}
 use Rattle.st_events.specs.declared.reasons.Why.{Why}
 use Rattle.st_events.specs.declared.reasons.Why.TheVariants.{WrongThread, WrongObject, WrongField, WrongNumber, WrongSite, WrongValue, WrongDone, NoLane}
@@ -57,9 +59,9 @@ abbrev pub args_fit : Heap → Option (List Kind) → Args → Bool
 args_fit heap None args = false
 args_fit heap (Some kinds) args = (args.count == length kinds) && (have_kinds heap kinds args.words && list_all (λ word. word == 0) (drop args.count args.words))
 
--- the next object of a mutator's region, which begins at `2 + m * objects`
+-- the next object of a mutator's region, which begins at `FIRST_OF_REGIONS + m * objects`
 abbrev pub next_object : Sizes → World → ℕ → ℕ
-next_object sizes w m = 2 + m * sizes.objects + w.made m
+next_object sizes w m = FIRST_OF_REGIONS + m * sizes.objects + w.made m
 
 -- whether two truths are the same
 abbrev pub same_truth : Bool → Bool → Bool

@@ -1,5 +1,6 @@
 use Rattle.std.specs.Prelude.{◌≡◌, ◌+◌, ◌*◌, [], length, get_or, Option, None}
 use Rattle.st_events.specs.declared.events.Event.{Event}
+use Rattle.st_events.specs.declared.heaps.TheConstants.{FIRST_OF_REGIONS}
 use Rattle.st_events.specs.declared.reasons.Why.{Why}
 use Rattle.st_events.specs.declared.replaying.Replay.{Replay}
 use Rattle.st_events.specs.Heap.{heap_of}
@@ -23,5 +24,5 @@ reason_of r e = illegal_reason r.shape.now r.sizes.now (seen r) e
 
 -- the replay has room for every object of every mutator
 pub record HasRoom (r : Replay) : Type 0 where
-  pub heap : length r.heap ≡ 2 + r.sizes.now.mutators * r.sizes.now.objects
+  pub heap : length r.heap ≡ FIRST_OF_REGIONS + r.sizes.now.mutators * r.sizes.now.objects
   pub made : length r.made.items ≡ r.sizes.now.mutators

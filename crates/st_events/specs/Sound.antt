@@ -1,4 +1,5 @@
 use Rattle.std.specs.Prelude.{◌≡◌, ℕ, ◌+◌, ◌*◌, ◌<◌, ◌≤◌, ◌⊎◌, true, List, [], ◌∷◌, length, Some, None, IsSome}
+use Rattle.st_events.specs.declared.heaps.TheConstants.{FIRST_OF_REGIONS, SHARED_OBJECT}
 use Rattle.st_events.specs.declared.limits.Sizes.{Sizes}
 use Rattle.st_events.specs.Shape.{ShapeLists, kinds_of}
 use Rattle.st_events.specs.Heap.{Heap, Object, class_at, word_at}
@@ -8,23 +9,23 @@ use Rattle.st_events.specs.Legal.{fits_cell}
 -- the heap has the shared object; its classes are declared; an object has a word for each field of its class; and each
 -- word has the kind of its cell
 pub record IsTypedHeap (shape : ShapeLists) (heap : Heap) : Type 0 where
-  pub shared : class_at heap 1 ≡ Some 0
+  pub shared : class_at heap SHARED_OBJECT ≡ Some 0
   pub declared : (obj class : ℕ) → class_at heap obj ≡ Some class → class < length shape.classes
   pub lengths : (obj : ℕ) (x : Object) → heap obj ≡ Some x → length x.words ≡ length (kinds_of shape x.class)
   pub kinds : (obj field word : ℕ) → word_at heap obj field ≡ Some word → fits_cell shape heap obj field word ≡ true
 
--- the object is one that mutator m made: its region begins at `2 + m * objects`
+-- the object is one that mutator m made: its region begins at `FIRST_OF_REGIONS + m * objects`
 pub record IsMade (sizes : Sizes) (w : World) (obj : ℕ) : Type 0 where
   pub m : ℕ
   pub k : ℕ
   pub thread : m < sizes.mutators
   pub made : k < w.made m
-  pub number : obj ≡ 2 + m * sizes.objects + k
+  pub number : obj ≡ FIRST_OF_REGIONS + m * sizes.objects + k
 
 -- every object is the shared one or made by a mutator, in its region and in order
 pub record AreRegions (sizes : Sizes) (w : World) : Type 0 where
   pub room : (m : ℕ) → w.made m ≤ sizes.objects
-  pub objects : (obj : ℕ) (x : Object) → w.heap obj ≡ Some x → (obj ≡ 1) ⊎ IsMade sizes w obj
+  pub objects : (obj : ℕ) (x : Object) → w.heap obj ≡ Some x → (obj ≡ SHARED_OBJECT) ⊎ IsMade sizes w obj
 
 -- the later heap has each object of the earlier one, of the same class and with as many words
 pub record Extends (earlier later : Heap) : Type 0 where

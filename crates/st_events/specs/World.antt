@@ -42,7 +42,16 @@ at k x f = λ n. cond (n == k) x (f n)
 
 -- before the first event there is the shared object alone
 abbrev pub first_world : ShapeLists → World
-first_world shape = record { heap = first_heap shape; stamp = λ _. 0; made = λ _. 0; epoch = 0; launched = λ _. None; active = []; kept = []; lost = [] }
+first_world shape = record {
+  heap = first_heap shape;
+  stamp = λ _. 0;
+  made = λ _. 0;
+  epoch = 0;
+  launched = λ _. None;
+  active = [];
+  kept = [];
+  lost = [];
+}
 
 -- the active checks that need a copy of the object where it changes: those launched after its stamp
 abbrev pub needing_in : World → ℕ → List ℕ
@@ -67,7 +76,12 @@ lost_at_change sizes w obj = cond (is_full sizes w) (w.lost ++ map (λ n. record
 
 -- after one word of an object was set
 abbrev pub changed : Sizes → World → ℕ → ℕ → ℕ → World
-changed sizes w obj field value = record w { heap = with_word w.heap obj field value; stamp = at obj w.epoch w.stamp; kept = kept_at_change sizes w obj; lost = lost_at_change sizes w obj }
+changed sizes w obj field value = record w {
+  heap = with_word w.heap obj field value;
+  stamp = at obj w.epoch w.stamp;
+  kept = kept_at_change sizes w obj;
+  lost = lost_at_change sizes w obj;
+}
 
 -- the number is one of the list's
 abbrev pub is_among : List ℕ → ℕ → Bool
@@ -92,11 +106,19 @@ released number (row ∷ rows) = row_if_needed row.obj (without number row.check
 
 -- what one event makes of all this; it does not ask whether the event is legal
 abbrev pub next : ShapeLists → Sizes → World → Event → World
-next shape sizes w (New m obj class) = record w { heap = with_object w.heap obj (fresh shape class); stamp = at obj w.epoch w.stamp; made = at m (w.made m + 1) w.made }
+next shape sizes w (New m obj class) = record w {
+  heap = with_object w.heap obj (fresh shape class);
+  stamp = at obj w.epoch w.stamp;
+  made = at m (w.made m + 1) w.made;
+}
 next shape sizes w (Load m obj field value) = w
 next shape sizes w (Store m obj field value) = changed sizes w obj field value
 next shape sizes w (Cas m obj field expect value done) = cond done (changed sizes w obj field value) w
-next shape sizes w (Launch m number site args) = record w { epoch = w.epoch + 1; launched = at number (Some (record { past = w.heap; thread = m; site = site; args = args })) w.launched; active = w.active ++ number ∷ [] }
+next shape sizes w (Launch m number site args) = record w {
+  epoch = w.epoch + 1;
+  launched = at number (Some (record { past = w.heap; thread = m; site = site; args = args })) w.launched;
+  active = w.active ++ number ∷ [];
+}
 next shape sizes w (Retire m number) = record w { active = without number w.active; kept = released number w.kept }
 
 -- what a list of events makes of all this

@@ -1,5 +1,7 @@
 //! The events of a heap. The place of an event in a journal, from 0, is its ticket.
 
+use crate::shapes::MOST_ARGS;
+
 /// A place in a source text.
 #[derive(Clone, Copy, Debug, PartialEq, Eq)]
 pub struct Site {
@@ -12,10 +14,10 @@ pub struct Site {
 /// The values that a check takes at its launch, in the order in which its expression first names the locals.
 #[derive(Clone, Copy, Debug, PartialEq, Eq)]
 pub struct Args {
-    /// How many of the words are used, at most 4.
+    /// How many of the words are used, at most `MOST_ARGS`.
     pub count: u8,
     /// The values; words from `count` on are 0.
-    pub words: [u64; 4],
+    pub words: [u64; MOST_ARGS],
 }
 
 /// One step of the heap. `m` is the number of the mutator that made it, from 0 in the order of the thread blocks;

@@ -1,5 +1,5 @@
 //! Laws of all journals, over the definitions of this crate. Nothing is computed: each call states a theorem, by its clauses.
-ghost use Rattle.st_events.specs.Laws.{AreSound, GrowByEvents, HaveLegalPrefixes, KeepThePast, LoseNothing};
+ghost use Rattle.st_events.specs.Laws.{AreSound, GrowByEvents, HaveLegalPrefixes, KeepThePast, LoseNothing, TellOfLaunches};
 
 /// What holds of all journals, however long, of every program and all sizes.
 pub fn laws_of_journals()
@@ -7,5 +7,6 @@ pub fn laws_of_journals()
     ensures prefixes { HaveLegalPrefixes }
     ensures sound { AreSound }
     ensures past { KeepThePast }
+    ensures launches { TellOfLaunches }
     ensures pool { LoseNothing }
 {}

@@ -21,10 +21,13 @@ pub use events::{Args, Event, Site};
 pub use heaps::{FIRST_OF_REGIONS, HeapMap, SHARED_OBJECT};
 pub use journals::Journal;
 pub use laws::laws_of_journals;
-pub use limits::{MOST_LANES, MOST_MUTATORS, Sizes};
+pub use limits::{
+    MOST_CALLS, MOST_COPIES, MOST_EVENTS, MOST_LANES, MOST_MUTATORS, MOST_OBJECTS, Sizes,
+    USUAL_CALLS, USUAL_COPIES, USUAL_EVENTS, USUAL_LANES, USUAL_OBJECTS,
+};
 pub use reasons::{ReplayError, Why};
 pub use refusals::{Lost, NoLane, NoMemory};
 pub use replays::replay;
 pub use runs::Ran;
-pub use shapes::{Kind, MOST_ARGS, MOST_FIELDS, Shape};
+pub use shapes::{Kind, MOST_ARGS, MOST_CHECKS, MOST_CLASSES, MOST_FIELDS, Shape};
 pub use verdicts::{End, Plain, Verdict};

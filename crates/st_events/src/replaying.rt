@@ -1,20 +1,20 @@
 //! The state of a replay: what the events so far say, as far as the legality of the next one asks for it.
-ghost use Rattle.std.specs.Prelude.{◌≡◌, ◌≢◌, ◌==◌, ◌+◌, ◌*◌, ◌^◌, ◌<◌, length, ◌≤◌, IfOk, IfSome, IfNone, OnOk, Some, None, slice_index, EachIndex, drop};
-ghost use Rattle.std.specs.List.{list_all};
-ghost use Rattle.st_events.specs.Heap.{heap_of};
-ghost use Rattle.st_events.specs.Legal.{next_object, has_kind, fits_cell, args_fit, have_kinds};
+ghost use Rattle.std.specs.Prelude.{◌≡◌, ◌≢◌, ◌==◌, ◌+◌, ◌^◌, ◌<◌, length, ◌≤◌, IfOk, IfSome, IfNone, OnOk, None, slice_index, EachIndex};
+ghost use Rattle.st_events.specs.Legal.{next_object};
 ghost use Rattle.st_events.specs.Seen.{seen, HasRoom, LooksAlike, reason_of};
 ghost use Rattle.st_events.specs.Shape.{IsWithinLimits};
 ghost use Rattle.st_events.specs.Sizes.{AreWithinLimits};
 ghost use Rattle.st_events.specs.World.{next, first_world, is_among, without};
-ghost use Rattle.st_events.specs.declared.events.Event.TheVariants.{New, Load, Store, Cas, Launch, Retire};
+ghost use Rattle.st_events.specs.declared.events.Event.TheVariants.{New};
 
-use crate::events::{Args, Event};
+mod fitting;
+mod legality;
+
+use crate::events::Event;
 use crate::heaps::{FIRST_OF_REGIONS, HeapMap};
 use crate::limits::Sizes;
-use crate::reasons::Why;
 use crate::refusals::NoMemory;
-use crate::shapes::{Kind, Shape};
+use crate::shapes::Shape;
 use std::alloc::Global;
 
 /// What the events so far say.
@@ -74,225 +74,11 @@ impl<'a> Replay<'a> {
         u64::from(obj) == first + u64::from(self.made_by(m))
     }
 
-    fn why_not_new(&self, m: u8, obj: u32, class: u8) -> Option<Why>
-        ensures { result ≡ reason_of self.now (New m obj class) }
-    {
-        if m >= self.sizes.mutators {
-            return Some(Why::WrongThread);
-        }
-        if !self.is_next(m, obj) {
-            return Some(Why::WrongObject);
-        }
-        if self.made_by(m) >= self.sizes.objects {
-            return Some(Why::WrongObject);
-        }
-        if class == 0 || class as usize >= self.shape.class_count() {
-            return Some(Why::WrongField);
-        }
-        None
-    }
-
-    fn why_not_load(&self, m: u8, obj: u32, field: u8, value: u64) -> Option<Why>
-        ensures { result ≡ reason_of self.now (Load m obj field value) }
-    {
-        if m >= self.sizes.mutators {
-            return Some(Why::WrongThread);
-        }
-        if self.heap.class(obj).is_none() {
-            return Some(Why::WrongObject);
-        }
-        match self.heap.get(obj, field) {
-            None => Some(Why::WrongField),
-            Some(word) => {
-                if word == value {
-                    None
-                } else {
-                    Some(Why::WrongValue)
-                }
-            }
-        }
-    }
-
-    fn why_not_store(&self, m: u8, obj: u32, field: u8, value: u64) -> Option<Why>
-        ensures { result ≡ reason_of self.now (Store m obj field value) }
-    {
-        if m >= self.sizes.mutators {
-            return Some(Why::WrongThread);
-        }
-        if self.heap.class(obj).is_none() {
-            return Some(Why::WrongObject);
-        }
-        if self.heap.get(obj, field).is_none() {
-            return Some(Why::WrongField);
-        }
-        if !self.fits_cell(obj, field, value) {
-            return Some(Why::WrongValue);
-        }
-        None
-    }
-
-    fn why_not_cas(
-        &self,
-        m: u8,
-        obj: u32,
-        field: u8,
-        expect: u64,
-        value: u64,
-        done: bool,
-    ) -> Option<Why>
-        ensures { result ≡ reason_of self.now (Cas m obj field expect value done) }
-    {
-        if m >= self.sizes.mutators {
-            return Some(Why::WrongThread);
-        }
-        if self.heap.class(obj).is_none() {
-            return Some(Why::WrongObject);
-        }
-        let word = match self.heap.get(obj, field) {
-            Some(word) => word,
-            None => return Some(Why::WrongField),
-        };
-        if !self.fits_cell(obj, field, expect) {
-            return Some(Why::WrongValue);
-        }
-        if !self.fits_cell(obj, field, value) {
-            return Some(Why::WrongValue);
-        }
-        if done != (word == expect) {
-            return Some(Why::WrongDone);
-        }
-        None
-    }
-
-    fn why_not_launch(&self, m: u8, number: u32, site: u16, args: Args) -> Option<Why>
-        ensures { result ≡ reason_of self.now (Launch m number site args) }
-    {
-        if m >= self.sizes.mutators {
-            return Some(Why::WrongThread);
-        }
-        if u64::from(number) != u64::from(self.launches) + 1 {
-            return Some(Why::WrongNumber);
-        }
-        let kinds = match self.shape.check_kinds(site) {
-            Some(kinds) => kinds,
-            None => return Some(Why::WrongSite),
-        };
-        if !self.args_fit(kinds, args) {
-            return Some(Why::WrongValue);
-        }
-        if self.active.len() >= self.sizes.lanes as usize {
-            return Some(Why::NoLane);
-        }
-        None
-    }
-
-    fn why_not_retire(&self, m: u8, number: u32) -> Option<Why>
-        ensures { result ≡ reason_of self.now (Retire m number) }
-    {
-        if m > self.sizes.mutators {
-            return Some(Why::WrongThread);
-        }
-        if !self.is_active(number) {
-            return Some(Why::WrongNumber);
-        }
-        None
-    }
-
     /// Whether the check is active.
     fn is_active(&self, number: u32) -> bool
         ensures { result ≡ is_among self.now.active.items number }
     {
         self.active.iter().any(|n| *n == number)
-    }
-
-    /// Whether a word has the kind.
-    fn has_kind(&self, kind: Kind, word: u64) -> bool
-        ensures { result ≡ has_kind (heap_of self.now.heap) kind word }
-    {
-        match kind {
-            Kind::Int => true,
-            Kind::Bool => word <= 1,
-            Kind::Ref(class) => word == 0 || self.heap.is_of_class(word, class),
-        }
-    }
-
-    /// Whether a word has the kind of the cell.
-    fn fits_cell(&self, obj: u32, field: u8, word: u64) -> bool
-        ensures { result ≡ fits_cell self.now.shape.now (heap_of self.now.heap) obj field word }
-    {
-        let class = match self.heap.class(obj) {
-            Some(class) => class,
-            None => return false,
-        };
-        match self.shape.fields(class).get(field as usize) {
-            Some(kind) => self.has_kind(*kind, word),
-            None => false,
-        }
-    }
-
-    /// Whether the arguments are so many words of these kinds, and the unused ones are 0.
-    fn args_fit(&self, kinds: &[Kind], args: Args) -> bool
-        ensures { result ≡ args_fit (heap_of self.now.heap) (Some kinds.now) args }
-    {
-        if args.count as usize != kinds.len() {
-            return false;
-        }
-        if !self.have_kinds(kinds, &args.words) {
-            return false;
-        }
-        rest_is_zero(&args.words, args.count as usize)
-    }
-
-    /// Whether the words begin with one of each kind.
-    fn have_kinds(&self, kinds: &[Kind], words: &[u64]) -> bool
-        ensures { result ≡ have_kinds (heap_of self.now.heap) kinds.now words.now }
-    {
-        for (place, kind) in kinds.iter().enumerate() {
-            let word = match words.get(place) {
-                Some(word) => *word,
-                None => return false,
-            };
-            if !self.has_kind(*kind, word) {
-                return false;
-            }
-        }
-        true
-    }
-
-    /// The first reason why the event is not legal now, if it is not.
-    pub(crate) fn why_not(&self, event: Event) -> Option<Why>
-        ensures { result ≡ reason_of self.now event }
-    {
-        match event {
-            Event::New { m, obj, class } => self.why_not_new(m, obj, class),
-            Event::Load {
-                m,
-                obj,
-                field,
-                value,
-            } => self.why_not_load(m, obj, field, value),
-            Event::Store {
-                m,
-                obj,
-                field,
-                value,
-            } => self.why_not_store(m, obj, field, value),
-            Event::Cas {
-                m,
-                obj,
-                field,
-                expect,
-                value,
-                done,
-            } => self.why_not_cas(m, obj, field, expect, value, done),
-            Event::Launch {
-                m,
-                number,
-                site,
-                args,
-            } => self.why_not_launch(m, number, site, args),
-            Event::Retire { m, number } => self.why_not_retire(m, number),
-        }
     }
 
     /// Takes in an event that is legal now.
@@ -384,21 +170,4 @@ fn drop_number(numbers: &mut Vec<u32>, number: u32)
     while let Some(place) = place_of(numbers, number) {
         numbers.remove(place);
     }
-}
-
-/// Whether each word from this place on is 0.
-fn rest_is_zero(words: &[u64], from: usize) -> bool
-    ensures { result ≡ list_all (λ word. word == 0) (drop from words.now) }
-{
-    match words.get(from..) {
-        Some(rest) => all_zero(rest),
-        None => true,
-    }
-}
-
-/// Whether each word is 0.
-fn all_zero(words: &[u64]) -> bool
-    ensures { result ≡ list_all (λ word. word == 0) words.now }
-{
-    words.iter().all(|word| *word == 0)
 }

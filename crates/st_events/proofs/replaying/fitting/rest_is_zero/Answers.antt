@@ -1,7 +1,7 @@
 use Rattle.std.proofs.Common.{◌≡◌, ◌==◌, ◌∙◌, ap, rules}
 use Rattle.std.specs.List.{list_all}
 use Rattle.st_events.proofs.ReplayLemmas.{slice_range-rest}
-use Rattle.st_events.proofs.replaying.rest_is_zero.Goals as goal
+use Rattle.st_events.proofs.replaying.fitting.rest_is_zero.Goals as goal
 
 pub returns-in-Some : goal.returns-in-Some
 returns-in-Some c =
