@@ -6,8 +6,8 @@ use Rattle.st_lex.specs.declared.kinds.Token.{Token}
 use Rattle.st_lex.specs.declared.faults.Fault.TheVariants as fault
 use Rattle.st_lex.specs.declared.faults.LexError.{LexError}
 use Rattle.st_lex.specs.declared.faults.LexError.TheVariants as error
-use Rattle.st_lex.specs.Answers.{StopsAt, Gives}
-use Rattle.st_lex.specs.Reading.{read_tokens}
+use Rattle.st_lex.specs.Answers.{StopsAt}
+use Rattle.st_lex.specs.Reading.{Gives, read_tokens}
 use Rattle.st_lex.specs.Tokens.{IsTokensOf}
 use Rattle.st_lex.proofs.Exact.{read_is_tokens, read_is_fault}
 

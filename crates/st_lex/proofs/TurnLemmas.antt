@@ -12,8 +12,8 @@ use Rattle.st_lex.specs.declared.pieces.Piece.{Piece}
 use Rattle.st_lex.specs.declared.pieces.Piece.TheVariants as piece
 use Rattle.st_lex.specs.Bytes.{is_newline}
 use Rattle.st_lex.specs.Sites.{line_of, column_of, site_of}
-use Rattle.st_lex.specs.Reading.{Stop, front_piece, token_at, with_first, reads_on, read_tokens}
-use Rattle.st_lex.specs.Answers.{error_at, TellsStop}
+use Rattle.st_lex.specs.Reading.{Stop, TellsStop, front_piece, token_at, with_first, reads_on, read_tokens}
+use Rattle.st_lex.specs.Answers.{error_at}
 use Rattle.st_lex.proofs.PieceLemmas.{Means, Stands}
 use Rattle.st_lex.proofs.GapLemmas.{first_at}
 use Rattle.st_lex.proofs.ReadLemmas.{reading, reading_all, reading_end, reading_step, piece_means, with_front, with_front_none, with_front_one}

@@ -1,11 +1,13 @@
 -- Reading a text from the front, piece by piece. `proofs/Exact.antt` shows that this reads what `Tokens` defines.
-use Rattle.std.specs.Prelude.{ℕ, zero, suc, ◌+◌, ◌-◌, if◌then◌else◌, nat_le, List, [], ◌∷◌, length, take, slice_index, pos, Result, Ok, Err}
+use Rattle.std.specs.Prelude.{◌≡◌, ℕ, zero, suc, ◌+◌, ◌-◌, if◌then◌else◌, nat_le, List, [], ◌∷◌, length, take, slice_index, pos, Result, Ok, Err}
 use Rattle.std.specs.List.{prefix_len}
 use Rattle.st_lex.specs.declared.kinds.Token.{Token}
 use Rattle.st_lex.specs.declared.kinds.TokenKind.{TokenKind}
 use Rattle.st_lex.specs.declared.kinds.TokenKind.TheVariants as kind
 use Rattle.st_lex.specs.declared.faults.Fault.{Fault}
 use Rattle.st_lex.specs.declared.faults.Fault.TheVariants as fault
+use Rattle.st_lex.specs.declared.faults.LexError.{LexError}
+use Rattle.st_lex.specs.declared.faults.LexError.TheVariants as error
 use Rattle.st_lex.specs.declared.limits.TheConstants.{LARGEST_NUMBER}
 use Rattle.st_lex.specs.declared.pieces.Piece.{Piece}
 use Rattle.st_lex.specs.declared.pieces.Piece.TheVariants as piece
@@ -72,3 +74,14 @@ read_rest text zero place (b ∷ z) =
 -- the tokens of a text, or the first place that is no token
 unfoldable pub read_tokens : List ℕ → Result (List Token) Stop
 read_tokens text = read_rest text 0 0 text
+
+-- an error other than want of memory tells where the reading stopped
+abbrev pub TellsStop : List ℕ → LexError → Result (List Token) Stop → Type 0
+TellsStop text error.Memory read = Unit {0}
+TellsStop text (error.BadByte at) read = (place : ℕ) × (read ≡ Err (record { place = place; fault = fault.BadByte })) × (at ≡ site_of text place)
+TellsStop text (error.LongNumber at) read = (place : ℕ) × (read ≡ Err (record { place = place; fault = fault.LongNumber })) × (at ≡ site_of text place)
+
+-- the answer, seen by `view`, is what is read, unless memory ran out
+abbrev pub Gives : {X : Type 0} → (X → List Token) → List ℕ → Result X LexError → Result (List Token) Stop → Type 0
+Gives view text (Ok x) read = read ≡ Ok (view x)
+Gives view text (Err e) read = TellsStop text e read

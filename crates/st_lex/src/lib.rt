@@ -15,7 +15,7 @@ mod words;
 
 pub use faults::LexError;
 pub use kinds::{Token, TokenKind};
-pub use laws::{exact_reading, neighbours, one_reading};
+pub use laws::{neighbours, one_reading};
 pub use lexer::tokens;
 pub use limits::{LARGEST_NUMBER, MOST_SOURCE_BYTES};
 

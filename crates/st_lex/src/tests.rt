@@ -3,7 +3,7 @@ ghost use Rattle.std.specs.Prelude.{◌≤◌, length};
 ghost use Rattle.st_lex.specs.declared.limits.TheConstants.{MOST_SOURCE_BYTES};
 
 use crate::TokenKind::{Key, Mark, Number, Word};
-use crate::{LexError, TokenKind, exact_reading, neighbours, one_reading, tokens};
+use crate::{LexError, TokenKind, tokens};
 use st_events::Site;
 use std::alloc::Global;
 use std::test::Fail;
@@ -143,11 +143,4 @@ fn an_error_shows_its_place(rt: HostRuntime) -> Result<(), Fail> {
         }
     }
     Ok(())
-}
-
-#[test]
-fn the_laws_hold(_rt: HostRuntime) {
-    one_reading();
-    exact_reading();
-    neighbours();
 }

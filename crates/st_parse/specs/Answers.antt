@@ -1,16 +1,11 @@
--- The one answer that a text has.
-use Rattle.std.specs.Prelude.{ℕ, List, map, Option, None, Result, Ok, Err}
+-- What the tokens of a text come to.
+use Rattle.std.specs.Prelude.{ℕ, List, map, Option}
 use Rattle.st_lex.specs.declared.kinds.Token.{Token}
-use Rattle.st_lex.specs.Reading.{Stop, read_tokens}
 use Rattle.st_parse.specs.Numbering.{numbered_program}
 use Rattle.st_parse.specs.Reading.{◌>>=◌, program_at}
 use Rattle.st_parse.specs.Small.{SmallLists}
 use Rattle.st_parse.specs.Symbols.{terminal_of}
 
--- of the tokens of the text, or of a place that is no token
-abbrev pub program_of_tokens : List ℕ → Result (List Token) Stop → Option SmallLists
-program_of_tokens text (Ok tokens) = program_at (map (terminal_of text) tokens) >>= numbered_program
-program_of_tokens text (Err stop) = None
-
-unfoldable pub program_of : List ℕ → Option SmallLists
-program_of text = program_of_tokens text (read_tokens text)
+-- the program in numbers, where the tokens spell one and it keeps the rules
+unfoldable pub program_of : List ℕ → List Token → Option SmallLists
+program_of text tokens = program_at (map (terminal_of text) tokens) >>= numbered_program

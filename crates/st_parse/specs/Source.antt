@@ -5,7 +5,7 @@ use Rattle.st_events.specs.declared.shapes.Kind.{Kind}
 use Rattle.st_events.specs.declared.shapes.Kind.TheVariants.{Int, Ref}
 use Rattle.st_lex.specs.declared.kinds.Token.{Token}
 use Rattle.st_lex.specs.Tokens.{IsTokensOf}
-use Rattle.st_parse.specs.declared.limits.TheConstants.{MOST_FIELDS, MOST_LOCALS, MOST_STATEMENTS}
+use Rattle.st_parse.specs.declared.limits.TheConstants.{MOST_FIELDS, MOST_LOCALS, MOST_STATEMENTS, NODE_CLASS}
 use Rattle.st_parse.specs.declared.programs.SmallStmt.{SmallStmt}
 use Rattle.st_parse.specs.declared.programs.SmallStmt.TheVariants as small
 use Rattle.st_parse.specs.Grammar.{FieldKind, int_kind, class_kind, Field, Statement, make_local, put_field, check_field, Program, program_spelling}
@@ -69,10 +69,10 @@ AreNumbered fields before [] [] = Unit {0}
 AreNumbered fields before (s ∷ ss) (n ∷ ns) = IsNumbered fields before s n × AreNumbered fields (before ++ made_by s) ss ns
 AreNumbered fields before statements numbers = ⊥
 
--- the kind of a field; the class has the number 1
+-- the kind of a field; one of kind class has the number of the class
 abbrev pub kind_of : FieldKind → Kind
 kind_of int_kind = Int
-kind_of (class_kind class) = Ref 1
+kind_of (class_kind class) = Ref NODE_CLASS
 
 -- a program with numbers for its names
 pub record HasNumbers (p : Program) (program : SmallLists) : Type 0 where

@@ -6,7 +6,7 @@ ghost use Rattle.st_parse.specs.Numbering.{is_int, is_of_class, are_distinct, is
 ghost use Rattle.st_parse.specs.Source.{kind_of};
 ghost use Rattle.st_parse.specs.Views.{kind_view, field_view};
 
-use crate::limits::MOST_FIELDS;
+use crate::limits::{MOST_FIELDS, NODE_CLASS};
 use crate::trees::{FieldTree, KindTree};
 use st_events::Kind;
 use std::alloc::{AllocError, Global};
@@ -71,13 +71,13 @@ pub(crate) fn is_class_right(class: &[u8], fields: &[FieldTree]) -> bool
     fields.len() <= MOST_FIELDS && are_distinct(fields) && keep_class(class, fields)
 }
 
-/// The kind of a field, where the class has the number 1.
+/// The kind of a field. One of kind class has the number of the class.
 fn kind_of(kind: KindTree) -> Kind
     ensures { result ≡ kind_of (kind_view kind.entry) }
 {
     match kind {
         KindTree::Int => Kind::Int,
-        KindTree::Class(_) => Kind::Ref(1),
+        KindTree::Class(_) => Kind::Ref(NODE_CLASS),
     }
 }
 

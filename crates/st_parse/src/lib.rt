@@ -16,7 +16,7 @@ mod terminals;
 mod trees;
 
 pub use laws::{numbers_within, one_program};
-pub use limits::{MOST_FIELDS, MOST_LOCALS, MOST_STATEMENTS};
+pub use limits::{MOST_FIELDS, MOST_LOCALS, MOST_STATEMENTS, NODE_CLASS};
 pub use programs::{Small, SmallStmt};
 pub use refusals::SmallError;
 pub use sources::small;

@@ -31,7 +31,7 @@ pub enum SmallStmt {
 pub struct Small {
     /// The thread's name, in ASCII.
     pub thread: Vec<u8>,
-    /// The kinds of the fields of the one class, which has the number 1, in their order.
+    /// The kinds of the fields of the one class, which has the number `NODE_CLASS`, in their order.
     pub fields: Vec<Kind>,
     /// The thread's statements, in their order.
     pub body: Vec<SmallStmt>,
