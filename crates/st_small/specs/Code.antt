@@ -9,7 +9,8 @@ use Rattle.st_events.specs.declared.verdicts.End.TheVariants.{Finished, EventsSp
 use Rattle.st_parse.specs.declared.programs.SmallStmt.{SmallStmt}
 use Rattle.st_parse.specs.declared.programs.SmallStmt.TheVariants.{Make, Put, Check}
 use Rattle.st_parse.specs.Small.{SmallLists}
-use Rattle.st_small.specs.declared.limits.TheConstants.{NODE_CLASS, EVENT_COST, LAUNCH_COST}
+use Rattle.st_parse.specs.declared.limits.TheConstants.{NODE_CLASS}
+use Rattle.st_small.specs.declared.limits.TheConstants.{EVENT_COST, LAUNCH_COST}
 use Rattle.st_small.specs.Program.{checks_of}
 
 -- what a thread asks of the heap

@@ -12,7 +12,8 @@ use Rattle.st_parse.specs.declared.programs.SmallStmt.{SmallStmt}
 use Rattle.st_parse.specs.declared.programs.SmallStmt.TheVariants.{Make, Put, Check}
 use Rattle.st_parse.specs.Small.{SmallLists}
 use Rattle.st_parse.specs.Sound.{IsSound}
-use Rattle.st_small.specs.declared.limits.TheConstants.{NODE_CLASS, CLASSES}
+use Rattle.st_parse.specs.declared.limits.TheConstants.{NODE_CLASS}
+use Rattle.st_small.specs.declared.limits.TheConstants.{CLASSES}
 
 -- the expression of a check statement: a field of its one argument is compared with a number
 pub record Comparison : Type 0 where

@@ -13,7 +13,8 @@ use Rattle.st_events.specs.Ran.{RanLists}
 use Rattle.st_parse.specs.Small.{SmallLists}
 use Rattle.st_parse.specs.declared.programs.SmallStmt.{SmallStmt}
 use Rattle.st_parse.specs.declared.programs.SmallStmt.TheVariants.{Make, Put, Check}
-use Rattle.st_small.specs.declared.limits.TheConstants.{NODE_CLASS, ONLY_THREAD, FIRST_OBJECT, LAUNCH_COST}
+use Rattle.st_parse.specs.declared.limits.TheConstants.{NODE_CLASS}
+use Rattle.st_small.specs.declared.limits.TheConstants.{ONLY_THREAD, FIRST_OBJECT, LAUNCH_COST}
 use Rattle.st_small.specs.Program.{plain_of, comparison_holds}
 use Rattle.st_small.specs.Code.{one_argument}
 

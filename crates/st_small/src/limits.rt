@@ -4,8 +4,6 @@ use st_events::FIRST_OF_REGIONS;
 
 /// How many classes there are: that of the shared object, and the declared one.
 pub const CLASSES: usize = 2;
-/// The number of the declared class.
-pub const NODE_CLASS: u8 = 1;
 /// The number of the one thread.
 pub const ONLY_THREAD: u8 = 0;
 /// The first object that the thread makes; 0 is null, and 1 is the shared object.

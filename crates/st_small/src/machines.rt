@@ -7,9 +7,9 @@ ghost use Rattle.st_small.specs.Code.{one_argument as one_argument_of};
 ghost use Rattle.st_small.specs.Program.{plain_of, comparison_holds};
 ghost use Rattle.st_small.specs.Running.{object_of_local, CanDo};
 
-use crate::limits::{FIRST_OBJECT, NODE_CLASS, ONLY_THREAD};
+use crate::limits::{FIRST_OBJECT, ONLY_THREAD};
 use st_events::{Args, Event, HeapMap, Journal, NoMemory, Plain, Shape, Verdict};
-use st_parse::{MOST_STATEMENTS, SmallStmt};
+use st_parse::{MOST_STATEMENTS, NODE_CLASS, SmallStmt};
 
 /// The one thread of a small program between two statements.
 #[derive(Debug, Drop)]
