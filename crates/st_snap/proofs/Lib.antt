@@ -2,6 +2,7 @@ mod AnyLemmas
 mod DriveLemmas
 mod ForwardLemmas
 mod HeaderLemmas
+mod HeldLemmas
 mod HoldsLemmas
 mod LaneLemmas
 mod LegalEvents

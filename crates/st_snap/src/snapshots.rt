@@ -34,7 +34,8 @@ impl Model for SnapHeap {
 }
 
 impl SnapHeap {
-    ghost use Rattle.st_snap.specs.Snapshots.{world_of, heap_now, active_now, rows_now, lanes_now, new_heap, IsLegalHeap, with_event, event_room, HasSpare, IsLaneOf, has_kind_of, are_args_of, HasCell, HadCell, word_at_launch, is_lost_for};
+    ghost use Rattle.st_snap.specs.Snapshots.{world_of, heap_now, active_now, rows_now, lanes_now, new_heap, IsLegalHeap, with_event, event_room, HasSpare};
+    ghost use Rattle.st_snap.specs.Snapshots.{IsLaneOf, IsActive, HasNoLane, IsOnlyLane, has_kind_of, are_args_of, HasCell, HadCell, word_at_launch, is_lost_for};
     ghost use Rattle.st_events.specs.declared.events.Event.{Event};
     ghost use Rattle.st_snap.specs.declared.lanes.Lane.{Lane};
 
@@ -156,6 +157,7 @@ impl SnapHeap {
         ensures event { IfOk result (λ lane. self.new ≡ with_event self.old (Event.Launch m lane.number site args)) }
         ensures legal { IsLegalHeap self.new }
         ensures lane { IfOk result (λ lane. IsLaneOf self.new lane) }
+        ensures fresh { IfOk result (λ lane. HasNoLane self.old lane.number) }
         ensures others { (other : Lane) → IsLaneOf self.old other → IsLaneOf self.new other }
     {
         let lane = match self.table.launch() {
@@ -182,6 +184,8 @@ impl SnapHeap {
         ensures word { IfOk result (λ word. word_at_launch self.now lane.now.number obj field ≡ Some word) }
         ensures lost { IsErr result ↔ IsTrue (is_lost_for self.now obj lane.now.number) }
         ensures object { IfErr result (λ lost. lost.obj ≡ obj) }
+        ensures active { IsActive self.now lane.now.number }
+        ensures only { IsOnlyLane self.now lane.now }
     {
         match self.table.read(lane, obj, field) {
             Some(word) => Ok(word),
@@ -196,6 +200,9 @@ impl SnapHeap {
         requires spare { HasSpare self.old }
         ensures event { self.new ≡ with_event self.old (Event.Retire m lane.number) }
         ensures legal { IsLegalHeap self.new }
+        ensures active { IsActive self.old lane.number }
+        ensures only { IsOnlyLane self.old lane }
+        ensures gone { HasNoLane self.new lane.number }
         ensures others { (other : Lane) → other.number ≢ lane.number → IsLaneOf self.old other → IsLaneOf self.new other }
     {
         let Lane { number, index } = lane;
