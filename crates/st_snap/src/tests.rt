@@ -410,22 +410,14 @@ fn each_check_reads_its_own_version(rt: HostRuntime) -> Result<(), Fail> {
     let mut heap = Driven::make(rt.alloc(), 0, small(4))?;
     let steps = [
         Step::Launch { gives: Some(1) },
-        Step::Cas {
+        Step::Store {
             object: 0,
-            expect: 0,
             value: 5,
-            gives: true,
         },
         Step::Launch { gives: Some(2) },
         Step::Store {
             object: 0,
             value: 6,
-        },
-        Step::Cas {
-            object: 0,
-            expect: 5,
-            value: 7,
-            gives: false,
         },
         Step::Free { gives: 2 },
         Step::Read {
@@ -443,6 +435,45 @@ fn each_check_reads_its_own_version(rt: HostRuntime) -> Result<(), Fail> {
             gives: 6,
         },
         Step::Launch { gives: None },
+    ];
+    assert!(rt; heap.plays_all(&steps)?);
+    Ok(())
+}
+
+#[test]
+fn a_cas_writes_only_over_the_expected_word(rt: HostRuntime) -> Result<(), Fail> {
+    let mut heap = Driven::make(rt.alloc(), 0, small(4))?;
+    let steps = [
+        Step::Launch { gives: Some(1) },
+        Step::Cas {
+            object: 0,
+            expect: 1,
+            value: 5,
+            gives: false,
+        },
+        Step::Free { gives: 4 },
+        Step::Cas {
+            object: 0,
+            expect: 0,
+            value: 5,
+            gives: true,
+        },
+        Step::Free { gives: 3 },
+        Step::Cas {
+            object: 0,
+            expect: 0,
+            value: 6,
+            gives: false,
+        },
+        Step::Load {
+            object: 0,
+            gives: 5,
+        },
+        Step::Read {
+            check: 0,
+            object: 0,
+            gives: 0,
+        },
     ];
     assert!(rt; heap.plays_all(&steps)?);
     Ok(())
