@@ -1,4 +1,5 @@
 mod AnyLemmas
+mod ApartLemmas
 mod DriveLemmas
 mod ForwardLemmas
 mod HeaderLemmas

@@ -1,7 +1,6 @@
 //! Tests of the snapshot heap, on heaps whose fields are all numbers: a driver, which knows what each call asks for. The rows
 //! stand in files of their own.
-ghost use Rattle.std.specs.Prelude.{◌≡◌, ◌==◌, IfOk};
-ghost use Rattle.std.specs.List.{list_any};
+ghost use Rattle.std.specs.Prelude.{◌≡◌, IfOk};
 ghost use Rattle.st_snap.specs.Drive.{plain_shape, CanAct};
 
 mod long_row;
@@ -168,9 +167,6 @@ impl Driven {
             return Err(Refused);
         }
         let lane = self.checks.remove(check);
-        if holds_number(self.checks.as_slice(), lane.number()) {
-            return Err(Refused);
-        }
         self.heap.retire(m, lane);
         Ok(())
     }
@@ -196,11 +192,4 @@ impl Driven {
         } = self;
         heap.into_journal().len()
     }
-}
-
-/// Whether one of the checks has this number.
-fn holds_number(checks: &[Lane], number: u32) -> bool
-    ensures { result ≡ list_any (λ lane. lane.number == number) checks.now }
-{
-    checks.iter().any(|lane| lane.number() == number)
 }
