@@ -1,8 +1,7 @@
 -- The tests' heaps over one more event
-use Rattle.std.proofs.Common.{◌≡◌, ◌≢◌, ℕ, zero, suc, ◌<◌, Bool, true, false, List, [], ◌∷◌, ◌++◌, length, map, replicate, slice_get, Option, Some, None, refl, sym, ap, subst, arith, IsSome, take, drop, get_or, cond, ◌==◌}
-use Rattle.std.specs.List.{All, remove, list_any}
-use Rattle.std.proofs.lemmas.List.Folds.{list_any_at}
-use Rattle.st_events.proofs.AmongLemmas.{same_number}
+use Rattle.std.proofs.Common.{◌≡◌, ◌≢◌, ℕ, zero, suc, ◌<◌, Bool, true, false, List, [], ◌∷◌, ◌++◌, length, map, replicate, slice_get, Option, Some, None, refl, sym, ap, subst, arith, IsSome, take, drop, get_or, cond}
+use Rattle.std.specs.List.{All, remove}
+use Rattle.std.proofs.lemmas.List.Quantifiers.{all_pairs_push, all_pairs_remove}
 use Rattle.std.proofs.lemmas.List.{length-map, length-replicate}
 use Rattle.std.proofs.lemmas.List.Elements.{All-weaker, All-push, All-append, All-take, All-drop, All-nil}
 use Rattle.std.proofs.lemmas.Option.{slice_get-get_or}
@@ -22,8 +21,9 @@ use Rattle.st_events.proofs.LegalLemmas.{IsLegal-empty}
 use Rattle.st_events.proofs.SoundHeap.{with_object-same}
 use Rattle.st_events.proofs.SoundLemmas.{sound_after}
 use Rattle.st_snap.specs.declared.lanes.Lane.{Lane}
-use Rattle.st_snap.specs.Snapshots.{Snapshots, world_of, heap_now, new_heap, with_event, IsLegalHeap, IsLaneOf, HasCell, has_kind_of, are_args_of, word_then}
+use Rattle.st_snap.specs.Snapshots.{Snapshots, world_of, heap_now, new_heap, with_event, IsLegalHeap, IsLaneOf, HasNoLane, HasCell, has_kind_of, are_args_of, word_then}
 use Rattle.st_snap.specs.Drive.{IsDriven, IsDrivenLane, HasCells, HadCells, plain_shape}
+use Rattle.st_snap.proofs.ApartLemmas.{apart-none}
 use Rattle.st_snap.proofs.ListLemmas.{slice_get-replicate}
 use Rattle.st_snap.proofs.StayLemmas.{cell-stays, past-stays}
 
@@ -71,6 +71,7 @@ driven-held s s' e sizes width known held d same legal stay = subst (λ (x : Sna
       legal = legal;
       objects = All-weaker (HasCells s) (HasCells (with_event s e)) (λ object has field lt. cell-stays s e object.0 field d.fits legal (has field lt)) known d.objects;
       lanes = λ k lane lt. lane-stays s e known d.fits legal (get_or held k lane) (stay k lane lt) (d.lanes k lane lt);
+      apart = d.apart;
     }
 
 pub driven-stays : (s s' : Snapshots) (e : Event) (sizes : Sizes) (width : ℕ) (known : List (ℕ × ℕ)) (held : List Lane) → IsDriven s sizes width known held → s' ≡ with_event s e → IsLegalHeap s' → ((lane : Lane) → IsLaneOf s lane → IsLaneOf s' lane) → IsDriven s' sizes width known held
@@ -85,10 +86,6 @@ pub driven-known : (s : Snapshots) (sizes : Sizes) (width : ℕ) (known items : 
 driven-known s sizes width known items held object true d more e = subst (λ (x : List (ℕ × ℕ)). IsDriven s sizes width x held) (sym e) more
 driven-known s sizes width known items held object false d more e = subst (λ (x : List (ℕ × ℕ)). IsDriven s sizes width x held) (sym e) d
 
--- no check has the number
-pub other-numbers : (held : List Lane) (number : ℕ) → list_any (λ lane. lane.number == number) held ≡ false → All (λ lane. lane.number ≢ number) held
-other-numbers held number none = λ k lane lt same. (let some : list_any (λ (x : Lane). x.number == number) held ≡ true = list_any_at (λ (x : Lane). x.number == number) held k lane lt (subst (λ (n : ℕ). (n == number) ≡ true) (sym same) (same_number number)) in cc)
-
 pub empty-list : {X : Type 0} (xs : List X) → length xs ≡ 0 → xs ≡ []
 empty-list [] e = refl
 empty-list (x ∷ xs) e = absurd (omega arith)
@@ -102,6 +99,7 @@ driven-first sizes width fits = record {
   legal = IsLegal-empty (plain_shape width) sizes;
   objects = All-push (HasCells (new_heap (plain_shape width) sizes)) [] (1, 1) (All-nil (HasCells (new_heap (plain_shape width) sizes))) shared;
   lanes = All-nil (IsDrivenLane (new_heap (plain_shape width) sizes) ((1, 1) ∷ []));
+  apart = apart-none;
 }
   where
     shared : HasCells (new_heap (plain_shape width) sizes) (1, 1)
@@ -127,6 +125,7 @@ driven-new s s' sizes width m obj known d shape same = record {
   legal = d.legal;
   objects = All-push (HasCells s') known (obj, width) d.objects (subst (λ (x : Snapshots). HasCells x (obj, width)) (sym same) (new-cells s width m obj shape));
   lanes = All-nil (IsDrivenLane s' (known ++ (obj, width) ∷ []));
+  apart = apart-none;
 }
 
 -- no arguments are right for the check
@@ -143,8 +142,8 @@ launched-cells s m n site args object has = λ field lt.
     (rw (at-same n (Some (record { past = (world_of s).heap; thread = m; site = site; args = args })) (world_of s).launched) (has field lt))
 
 -- a launch
-pub driven-launch : (s s' : Snapshots) (sizes : Sizes) (width m site : ℕ) (args : Args) (lane : Lane) (known : List (ℕ × ℕ)) (held : List Lane) → IsDriven s sizes width known held → IsDriven s' sizes width known held → s' ≡ with_event s (Launch m lane.number site args) → IsLaneOf s' lane → IsDriven s' sizes width known (held ++ lane ∷ [])
-driven-launch s s' sizes width m site args lane known held before d same is = record {
+pub driven-launch : (s s' : Snapshots) (sizes : Sizes) (width m site : ℕ) (args : Args) (lane : Lane) (known : List (ℕ × ℕ)) (held : List Lane) → IsDriven s sizes width known held → IsDriven s' sizes width known held → s' ≡ with_event s (Launch m lane.number site args) → IsLaneOf s' lane → HasNoLane s lane.number → IsDriven s' sizes width known (held ++ lane ∷ [])
+driven-launch s s' sizes width m site args lane known held before d same is fresh = record {
   sizes = d.sizes;
   shape = d.shape;
   fits = d.fits;
@@ -154,15 +153,17 @@ driven-launch s s' sizes width m site args lane known held before d same is = re
     is = is;
     had = All-weaker (HasCells s) (HadCells s' lane.number) (λ object has. subst (λ (x : Snapshots). HadCells x lane.number object) (sym same) (launched-cells s m lane.number site args object has)) known before.objects;
   });
+  apart = all_pairs_push (λ (one : Lane) (later : Lane). one.number ≢ later.number) held lane d.apart (λ k other lt. fresh (get_or held k other) (before.lanes k other lt).is);
 }
 
 -- one check fewer is held
-pub driven-less : (s : Snapshots) (sizes : Sizes) (width : ℕ) (known : List (ℕ × ℕ)) (held : List Lane) (i : ℕ) → IsDriven s sizes width known held → IsDriven s sizes width known (remove held i)
-driven-less s sizes width known held i d = record {
+pub driven-less : (s : Snapshots) (sizes : Sizes) (width : ℕ) (known : List (ℕ × ℕ)) (held : List Lane) (i : ℕ) → i < length held → IsDriven s sizes width known held → IsDriven s sizes width known (remove held i)
+driven-less s sizes width known held i within d = record {
   sizes = d.sizes;
   shape = d.shape;
   fits = d.fits;
   legal = d.legal;
   objects = d.objects;
   lanes = All-append (IsDrivenLane s known) (take i held) (drop (suc i) held) (All-take (IsDrivenLane s known) i held d.lanes) (All-drop (IsDrivenLane s known) (suc i) held d.lanes);
+  apart = all_pairs_remove (λ (one : Lane) (later : Lane). one.number ≢ later.number) held i within d.apart;
 }

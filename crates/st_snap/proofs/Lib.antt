@@ -1,7 +1,9 @@
 mod AnyLemmas
+mod ApartLemmas
 mod DriveLemmas
 mod ForwardLemmas
 mod HeaderLemmas
+mod HeldLemmas
 mod HoldsLemmas
 mod LaneLemmas
 mod LegalEvents

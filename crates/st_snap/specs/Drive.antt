@@ -1,6 +1,6 @@
 -- What the tests' heaps have in common: all numbers, one check without arguments, and objects that are known to exist
-use Rattle.std.specs.Prelude.{◌≡◌, ℕ, ◌<◌, List, [], ◌∷◌, replicate}
-use Rattle.std.specs.List.{All}
+use Rattle.std.specs.Prelude.{◌≡◌, ◌≢◌, ℕ, ◌<◌, List, [], ◌∷◌, replicate}
+use Rattle.std.specs.List.{All, AllPairs}
 use Rattle.st_events.specs.declared.shapes.Kind.TheVariants.{Int}
 use Rattle.st_events.specs.declared.limits.Sizes.{Sizes}
 use Rattle.st_events.specs.Shape.{ShapeLists, IsWithinLimits}
@@ -24,6 +24,10 @@ pub record IsDrivenLane (s : Snapshots) (known : List (ℕ × ℕ)) (lane : Lane
   pub is : IsLaneOf s lane
   pub had : All (HadCells s lane.number) known
 
+-- no two of the lanes have one number
+abbrev pub AreApart : List Lane → Type 0
+AreApart held = AllPairs (λ lane later. lane.number ≢ later.number) held
+
 -- a heap, the sizes that it was made for, and objects and lanes that are known
 pub record IsDriven (s : Snapshots) (made_for : Sizes) (width : ℕ) (known : List (ℕ × ℕ)) (held : List Lane) : Type 0 where
   pub sizes : s.sizes ≡ made_for
@@ -32,6 +36,7 @@ pub record IsDriven (s : Snapshots) (made_for : Sizes) (width : ℕ) (known : Li
   pub legal : IsLegalHeap s
   pub objects : All (HasCells s) known
   pub lanes : All (IsDrivenLane s known) held
+  pub apart : AreApart held
 
 -- a mutator can act on a cell
 pub record CanAct (s : Snapshots) (m obj field : ℕ) : Type 0 where

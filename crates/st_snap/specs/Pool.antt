@@ -25,7 +25,10 @@ kept_in obj after upto words copy = record { version = record { obj = obj; after
 
 -- where a copy is free it keeps one more version; else the version is gone and the pool as before
 abbrev pub Keeps : PoolVersions → PoolVersions → ℕ → ℕ → ℕ → List ℕ → Target → Type 0
-Keeps before after' obj after upto words (Copied copy) = (length before.versions < before.size) × (copy < before.size) × (after' ≡ record before { versions = before.versions ++ kept_in obj after upto words copy ∷ [] })
+Keeps before after' obj after upto words (Copied copy) =
+    (length before.versions < before.size)
+    × (copy < before.size)
+    × (after' ≡ record before { versions = before.versions ++ kept_in obj after upto words copy ∷ [] })
 Keeps before after' obj after upto words Gone = (before.size ≤ length before.versions) × (after' ≡ before)
 
 -- whether some check at a lane reads the version

@@ -70,7 +70,13 @@ pub record IsForwardAt (headers : List Header) (obj lane : ℕ) (f : Forward) : 
 -- the forwarding words of every object that stood at the launch of an active check
 pub record AreForwards (w : World) (t : TableLists) : Type 0 where
   pub epochs : (obj lane : ℕ) (f : Forward) → IsForwardAt t.headers obj lane f → f.epoch ≤ w.epoch
-  pub versions : (obj lane n : ℕ) (f : Forward) (l : Launched) → slice_get t.lanes lane ≡ Some (Some n) → w.launched n ≡ Some l → IsSome (l.past obj) → IsForwardAt t.headers obj lane f → IsForwardOf (w.stamp obj) w.lost t.pool obj n (l.past obj) f
+  pub versions :
+      (obj lane n : ℕ) (f : Forward) (l : Launched)
+      → slice_get t.lanes lane ≡ Some (Some n)
+      → w.launched n ≡ Some l
+      → IsSome (l.past obj)
+      → IsForwardAt t.headers obj lane f
+      → IsForwardOf (w.stamp obj) w.lost t.pool obj n (l.past obj) f
 
 -- the tables mean this world
 pub record Represents (sizes : Sizes) (w : World) (t : TableLists) : Type 0 where

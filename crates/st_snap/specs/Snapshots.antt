@@ -1,10 +1,10 @@
-use Rattle.std.specs.Prelude.{◌≡◌, ℕ, ◌*◌, ◌<◌, Bool, List, [], ◌∷◌, ◌++◌, length, slice_get, Option, Some, None, IsSome}
+use Rattle.std.specs.Prelude.{◌≡◌, ◌≢◌, ℕ, ◌*◌, ◌<◌, Bool, List, [], ◌∷◌, ◌++◌, length, slice_get, Option, Some, None, IsSome, IsTrue}
 use Rattle.st_events.specs.declared.events.Event.{Event}
 use Rattle.st_events.specs.declared.limits.Sizes.{Sizes}
 use Rattle.st_events.specs.Shape.{ShapeLists}
 use Rattle.st_events.specs.Heap.{Heap, word_at}
 use Rattle.st_events.specs.declared.events.Args.{Args}
-use Rattle.st_events.specs.World.{World, Launched, Row, world_after, is_lost}
+use Rattle.st_events.specs.World.{World, Launched, Row, world_after, is_among, is_lost}
 use Rattle.st_events.specs.History.{heap_after, active_checks, kept_rows, lost_pairs, launch_of}
 use Rattle.st_events.specs.Legal.{IsLegal, fits_cell, args_fit}
 use Rattle.st_snap.specs.declared.lanes.Lane.{Lane}
@@ -59,6 +59,18 @@ HasSpare s = length s.journal < event_room s.sizes
 -- the lane is that of an active check of this heap
 abbrev pub IsLaneOf : Snapshots → Lane → Type 0
 IsLaneOf s lane = slice_get (lanes_now s) lane.index ≡ Some (Some lane.number)
+
+-- the check is active
+abbrev pub IsActive : Snapshots → ℕ → Type 0
+IsActive s number = IsTrue (is_among (active_now s) number)
+
+-- the check has no lane of this heap
+abbrev pub HasNoLane : Snapshots → ℕ → Type 0
+HasNoLane s number = (other : Lane) → IsLaneOf s other → other.number ≢ number
+
+-- no lane of this heap at another place has the same check
+abbrev pub IsOnlyLane : Snapshots → Lane → Type 0
+IsOnlyLane s lane = (other : Lane) → IsLaneOf s other → other.number ≡ lane.number → other.index ≡ lane.index
 
 -- whether a word has the kind of a cell
 abbrev pub has_kind_of : Snapshots → ℕ → ℕ → ℕ → Bool

@@ -97,7 +97,10 @@ ChangesWhere false before after obj field value = after ≡ before
 -- a check is launched where a lane is idle
 abbrev pub Launches : TableLists → TableLists → Option Lane → Type 0
 Launches before after None = (position is_idle before.lanes ≡ None) × (after ≡ before)
-Launches before after (Some lane) = (position is_idle before.lanes ≡ Some lane.index) × (lane.number ≡ before.epoch + 1) × (after ≡ record before { epoch = before.epoch + 1; lanes = slice_set before.lanes lane.index (Some (before.epoch + 1)) })
+Launches before after (Some lane) =
+    (position is_idle before.lanes ≡ Some lane.index)
+    × (lane.number ≡ before.epoch + 1)
+    × (after ≡ record before { epoch = before.epoch + 1; lanes = slice_set before.lanes lane.index (Some (before.epoch + 1)) })
 
 -- the pool without the versions that no check at a lane reads
 abbrev pub released_pool : List (Option ℕ) → PoolVersions → PoolVersions
@@ -123,4 +126,10 @@ pub record Reads (t : TableLists) (lane : Lane) (obj field : ℕ) (answer : Opti
 
 -- each copy that a check is sent to at this header is one of the pool's
 abbrev pub AreCopies : TableLists → Lane → ℕ → Type 0
-AreCopies t lane obj = (header : Header) (forward : Forward) (copy : ℕ) → slice_get t.headers obj ≡ Some header → slice_get header.forward lane.index ≡ Some forward → forward.epoch ≡ lane.number → forward.target ≡ Copied copy → copy < t.pool.size
+AreCopies t lane obj =
+    (header : Header) (forward : Forward) (copy : ℕ)
+    → slice_get t.headers obj ≡ Some header
+    → slice_get header.forward lane.index ≡ Some forward
+    → forward.epoch ≡ lane.number
+    → forward.target ≡ Copied copy
+    → copy < t.pool.size

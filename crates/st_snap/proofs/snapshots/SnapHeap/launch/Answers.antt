@@ -7,6 +7,7 @@ use Rattle.st_snap.specs.Table.{TableLists}
 use Rattle.st_snap.specs.declared.lanes.Lane.{Lane}
 use Rattle.st_snap.specs.Represents.{Represents}
 use Rattle.st_snap.proofs.HoldsLemmas.{holds-next, sound-now, epoch-small, lane-here, here-lane}
+use Rattle.st_snap.proofs.HeldLemmas.{next-has-no-lane}
 use Rattle.st_snap.proofs.LegalEvents.{legal-launch}
 use Rattle.st_snap.proofs.RepresentsSteps.{represents-launch}
 use Rattle.st_snap.proofs.snapshots.SnapHeap.launch.Goals as goal
@@ -61,6 +62,11 @@ returns-clause-lane c =
     let lane = c.in-Some.lane in
     let idle = first-idle f.table.lanes lane.index c.in-Some.ensures.0 in
     here-lane f.shape f.sizes c.launch.new.self c.append.new.journal lane (invariant_of-self-2 c) (ap (λ (ls : List (Option ℕ)). slice_get ls lane.index) (lanes-are f.table c.launch.new.self lane c.in-Some.ensures.1 c.in-Some.ensures.2) ∙ set-same f.table.lanes lane.index (Some lane.number) (slice_get_within f.table.lanes lane.index None idle))
+
+pub returns-clause-fresh : goal.returns-clause-fresh
+returns-clause-fresh c =
+    let f = c.self.inside in
+    next-has-no-lane f.shape f.sizes f.table f.journal c.args.self.now c.in-Some.lane.number c.self.invariant c.self.view_is (c.in-Some.ensures.1 ∙ ap (λ (n : ℕ). n + 1) c.self.invariant.tables.live.epoch)
 
 pub returns-clause-others : goal.returns-clause-others
 returns-clause-others c = λ other is.

@@ -5,6 +5,7 @@ use Rattle.st_snap.specs.Snapshots.{Snapshots, HasSpare}
 use Rattle.st_snap.specs.Table.{TableLists}
 use Rattle.st_snap.specs.Represents.{Represents}
 use Rattle.st_snap.proofs.HoldsLemmas.{holds-next, sound-now, lane-here, here-lane}
+use Rattle.st_snap.proofs.HeldLemmas.{retired-has-no-lane}
 use Rattle.st_snap.proofs.LegalEvents.{legal-retire}
 use Rattle.st_snap.proofs.RepresentsSteps.{represents-retire}
 use Rattle.st_snap.proofs.snapshots.SnapHeap.retire.Goals as goal
@@ -27,6 +28,11 @@ invariant_of-self c =
 
 pub returns-clause-legal : goal.returns-clause-legal
 returns-clause-legal c = (invariant_of-self c).legal
+
+pub returns-clause-gone : goal.returns-clause-gone
+returns-clause-gone c =
+    let f = c.self.inside in
+    retired-has-no-lane f.shape f.sizes c.retire.new.self c.append.new.journal f.journal.events c.args.m c.args.lane.number (invariant_of-self c) c.append.ensures.events
 
 pub returns-clause-others : goal.returns-clause-others
 returns-clause-others c = λ other ne is.

@@ -1,9 +1,7 @@
-use Rattle.std.proofs.Common.{rules, ◌≡◌, ◌≢◌, ◌≤◌, length, ℕ, ◌+◌, ◌<◌, ◌==◌, Bool, true, false, List, [], ◌∷◌, ◌++◌, slice_get, Option, Some, None, arith, cond, refl, ap, sym, subst, ◌∙◌}
-use Rattle.std.specs.Result.{is_ok}
-use Rattle.st_events.specs.declared.events.Event.TheVariants.{New, Load, Store, Cas, Launch, Retire}
-use Rattle.st_snap.specs.declared.lanes.Lane.{Lane}
+use Rattle.std.proofs.Common.{ℕ, List, slice_get, Option, ap, sym, subst, ◌∙◌}
+use Rattle.st_events.specs.declared.events.Event.TheVariants.{Cas}
 use Rattle.st_snap.specs.Snapshots.{Snapshots, HasCell}
-use Rattle.st_snap.proofs.DriveLemmas.{driven-kind, driven-args, driven-held, driven-stays, driven-new, driven-launch, driven-pushed, driven-known, other-numbers, empty-list}
+use Rattle.st_snap.proofs.DriveLemmas.{driven-kind, driven-stays}
 use Rattle.st_snap.proofs.tests.Driven.cas.Goals as goal
 
 pub cas-requires-clause-expect : goal.cas-requires-clause-expect

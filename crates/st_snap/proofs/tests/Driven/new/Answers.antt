@@ -1,11 +1,10 @@
-use Rattle.std.proofs.Common.{rules, ◌≡◌, ◌≢◌, ◌≤◌, length, ℕ, ◌+◌, ◌<◌, ◌==◌, Bool, true, false, List, [], ◌∷◌, ◌++◌, slice_get, Option, Some, None, arith, cond, refl, ap, sym, subst, ◌∙◌, get_or}
+use Rattle.std.proofs.Common.{◌≡◌, ℕ, List, [], ◌∷◌, ◌++◌, slice_get, Option, arith, ap, sym, subst, ◌∙◌}
 use Rattle.std.specs.Result.{is_ok}
-use Rattle.std.specs.List.{list_any, remove}
-use Rattle.st_events.specs.declared.events.Event.TheVariants.{New, Load, Store, Cas, Launch, Retire}
+use Rattle.st_events.specs.declared.events.Event.TheVariants.{New}
 use Rattle.st_events.proofs.AmongLemmas.{same_numbers}
 use Rattle.st_snap.specs.declared.lanes.Lane.{Lane}
 use Rattle.st_snap.specs.Drive.{IsDriven}
-use Rattle.st_snap.proofs.DriveLemmas.{driven-held, driven-stays, driven-new, driven-known, driven-less, other-numbers, empty-list}
+use Rattle.st_snap.proofs.DriveLemmas.{driven-stays, driven-new, driven-known, empty-list}
 use Rattle.st_snap.proofs.tests.Driven.new.Goals as goal
 
 pub invariant_of-self : goal.invariant_of-self

@@ -1,0 +1,36 @@
+-- Which checks have no lane of the heap: the next one, and a retired one
+use Rattle.std.proofs.Common.{◌≡◌, ℕ, ◌+◌, true, List, [], ◌∷◌, ◌++◌, ap, subst, arith, ◌∙◌}
+use Rattle.st_events.specs.declared.events.Event.{Event}
+use Rattle.st_events.specs.declared.events.Event.TheVariants.{Retire}
+use Rattle.st_events.specs.declared.limits.Sizes.{Sizes}
+use Rattle.st_events.specs.Journal.{Written}
+use Rattle.st_events.specs.Shape.{ShapeLists}
+use Rattle.st_events.specs.World.{World, world_after, is_among}
+use Rattle.st_events.proofs.AmongLemmas.{is_among-without}
+use Rattle.st_events.proofs.WorldLemmas.{world_after-snoc}
+use Rattle.st_snap.specs.Snapshots.{Snapshots, HasNoLane}
+use Rattle.st_snap.specs.Table.{TableLists}
+use Rattle.st_snap.specs.Holds.{Holds}
+use Rattle.st_snap.proofs.HoldsLemmas.{lane-here, sound-now}
+
+-- what contracts see of the fields
+abbrev pub seen_of : ShapeLists → Sizes → Written → Snapshots
+seen_of shape sizes journal = record { shape = shape; sizes = sizes; journal = journal.events }
+
+-- the number after the epoch is at no lane
+pub next-has-no-lane : (shape : ShapeLists) (sizes : Sizes) (t : TableLists) (journal : Written) (s : Snapshots) (number : ℕ) → Holds shape sizes t journal → seen_of shape sizes journal ≡ s → number ≡ (world_after shape sizes journal.events).epoch + 1 → HasNoLane s number
+next-has-no-lane shape sizes t journal s number h view next = subst (λ (x : Snapshots). HasNoLane x number) view fresh
+  where
+    fresh : HasNoLane (seen_of shape sizes journal) number
+    fresh = λ other is same.
+        let active = h.tables.lanes.are_active other.index other.number (lane-here shape sizes t journal other h is) in
+        let launched = (sound-now shape sizes t journal h).active.launched other.number active in
+        omega (arith, launched.1, same, next)
+
+-- a retired check is at no lane
+pub retired-has-no-lane : (shape : ShapeLists) (sizes : Sizes) (t : TableLists) (journal : Written) (before : List Event) (m number : ℕ) → Holds shape sizes t journal → journal.events ≡ before ++ Retire m number ∷ [] → HasNoLane (seen_of shape sizes journal) number
+retired-has-no-lane shape sizes t journal before m number h more = λ other is same.
+    let active = h.tables.lanes.are_active other.index other.number (lane-here shape sizes t journal other h is) in
+    let same_world = ap (world_after shape sizes) more ∙ world_after-snoc shape sizes before (Retire m number) in
+    let left = subst (λ (w : World). is_among w.active other.number ≡ true) same_world active in
+    (is_among-without number (world_after shape sizes before).active other.number left).1 same
