@@ -3,21 +3,9 @@
 # Makes a scratch repository of the crates below st_lex and a small program, proves and builds the program (LLVM), and
 # prints for each size the bytes, the tokens, the best time of 25 passes in microseconds, and MB/s (10^6 bytes a second).
 # Run it at any place of the repository:  sh bench/lex.sh
-set -eu
+. "$(dirname "$0")/scratch.sh"
 
-top=$(cd "$(dirname "$0")/.." && pwd)
-scratch=$(mktemp -d)
-trap 'rm -rf "$scratch"' EXIT
-
-mkdir -p "$scratch/crates"
-for crate in st_events st_lex; do
-    mkdir "$scratch/crates/$crate"
-    for part in src specs proofs; do
-        if [ -d "$top/crates/$crate/$part" ]; then
-            cp -r "$top/crates/$crate/$part" "$scratch/crates/$crate/$part"
-        fi
-    done
-done
+copy st_events st_lex
 printf 'st_events:\nst_lex: st_events thiserror\nlexbench: st_lex anyhow\n' > "$scratch/crates.txt"
 
 mkdir -p "$scratch/crates/lexbench/src"

@@ -3,16 +3,9 @@
 # Makes a scratch repository of st_events and a small program, proves and builds the program (LLVM), and prints for each
 # journal its events, the best time of 5 passes in microseconds, and events a second.
 # Run it at any place of the repository:  sh bench/replay.sh
-set -eu
+. "$(dirname "$0")/scratch.sh"
 
-top=$(cd "$(dirname "$0")/.." && pwd)
-scratch=$(mktemp -d)
-trap 'rm -rf "$scratch"' EXIT
-
-mkdir -p "$scratch/crates/st_events"
-for part in src specs proofs; do
-    cp -r "$top/crates/st_events/$part" "$scratch/crates/st_events/$part"
-done
+copy st_events
 printf 'st_events:\nreplaybench: st_events anyhow\n' > "$scratch/crates.txt"
 
 mkdir -p "$scratch/crates/replaybench/src"
