@@ -8,13 +8,13 @@
 
 copy st_events st_snap
 printf 'st_events:\nst_snap: st_events\nsnapbench: st_events st_snap anyhow\n' > "$scratch/crates.txt"
-# The driver of the tests, up to their rows, with its proofs.
+# The driver of the tests, without their rows, with its proofs.
 tests=$top/crates/st_snap/src/tests.rt
 program=$scratch/crates/snapbench
 proofs=$program/proofs/driver/Driven
 mkdir -p "$program/src" "$program/proofs/driver"
-sed -i 's/^mod DriveLemmas/pub mod DriveLemmas/' "$scratch/crates/st_snap/proofs/Lib.antt"
-sed -e '/^\/\/\/ One call, /,$d' -e '/^use std::test::/d' -e 's/^use crate::/use st_snap::/' -e 's/^struct /pub struct /' \
+sed -i -E 's/^mod (Apart|Drive)Lemmas/pub mod \1Lemmas/' "$scratch/crates/st_snap/proofs/Lib.antt"
+sed -e '/^mod /d' -e 's/^use crate::/use st_snap::/' -e 's/^struct /pub struct /' \
     -e '/^impl Driven/,$ s/^    fn /    pub fn /' "$tests" > "$program/src/driver.rt"
 cp -r "$top/crates/st_snap/proofs/tests/Driven" "$proofs"
 find "$proofs" -name '*.antt' -exec sed -i 's/st_snap\.proofs\.tests/snapbench.proofs.driver/' {} +
