@@ -14,7 +14,8 @@ program=$scratch/crates/snapbench
 proofs=$program/proofs/driver/Driven
 mkdir -p "$program/src" "$program/proofs/driver"
 sed -i -E 's/^mod (Apart|Drive)Lemmas/pub mod \1Lemmas/' "$scratch/crates/st_snap/proofs/Lib.antt"
-sed -e '/^mod /d' -e 's/^use crate::/use st_snap::/' -e 's/^struct /pub struct /' \
+sed -e '1s/.*/\/\/! The driver of the tests of st_snap, and passes over its objects./' -e '2{/^\/\/!/d}' \
+    -e '/^mod /d' -e 's/^use crate::/use st_snap::/' -e 's/^struct /pub struct /' \
     -e '/^impl Driven/,$ s/^    fn /    pub fn /' "$tests" > "$program/src/driver.rt"
 cp -r "$top/crates/st_snap/proofs/tests/Driven" "$proofs"
 find "$proofs" -name '*.antt' -exec sed -i 's/st_snap\.proofs\.tests/snapbench.proofs.driver/' {} +
