@@ -1,6 +1,7 @@
 -- What keeping a version leaves as it was
-use Rattle.std.proofs.Common.{◌≡◌, ℕ, length, ap, ◌∙◌, inl, inr}
-use Rattle.st_snap.specs.Table.{TableLists, KeepsVersion, Changes, Makes, sent}
+use Rattle.std.proofs.Common.{◌≡◌, ℕ, length, IsSome, ap, subst, ◌∙◌, inl, inr}
+use Rattle.st_snap.specs.Table.{TableLists, KeepsVersion, Writes, Changes, Makes, adjust, sent, stamped}
+use Rattle.st_events.specs.Heap.{heap_of, word_at, with_word}
 use Rattle.st_events.specs.Shape.{ShapeLists}
 use Rattle.st_snap.proofs.ListLemmas.{length-adjust}
 
@@ -15,6 +16,22 @@ kept_header_room before after obj k = elim k.cases [
   | inl y ↦ ap (λ (t : TableLists). length t.headers) y.rest ∙ length-adjust (sent y.target before.lanes) before.headers obj
   | inr n ↦ ap (λ (t : TableLists). length t.headers) n.1
 ]
+
+-- a cell is there still once a version is kept
+pub kept_cell : (before after : TableLists) (obj field : ℕ) → KeepsVersion before after obj → IsSome (word_at (heap_of before.heap) obj field) → IsSome (word_at (heap_of after.heap) obj field)
+kept_cell before after obj field k is = rw (kept_same_heap before after obj k) is
+
+-- a version is kept, and then a word is written
+pub changes : (before between after : TableLists) (obj field value : ℕ) → KeepsVersion before between obj → Writes between after obj field value → Changes before after obj field value
+changes before between after obj field value version writes =
+    let heap = kept_same_heap before between obj version in
+    record {
+      between = between;
+      version = version;
+      heap = writes.heap ∙ ap (λ h. with_word (heap_of h) obj field value) heap;
+      room = writes.room ∙ ap length heap;
+      rest = subst (λ (epoch : ℕ). after ≡ record between { heap = after.heap; headers = adjust (stamped epoch) between.headers obj }) (kept_same_epoch before between obj version) writes.rest;
+    }
 
 kept_same_lanes : (before after : TableLists) (obj : ℕ) → KeepsVersion before after obj → after.lanes ≡ before.lanes
 kept_same_lanes before after obj k = elim k.cases [ inl y ↦ ap (λ (t : TableLists). t.lanes) y.rest | inr n ↦ ap (λ (t : TableLists). t.lanes) n.1 ]

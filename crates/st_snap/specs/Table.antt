@@ -81,6 +81,12 @@ pub record KeepsVersion (before after : TableLists) (obj : ℕ) : Type 0 where
   pub found : slice_get before.headers obj ≡ Some header
   pub cases : KeepsFor before after obj header ⊎ ((list_any (is_between header.stamp before.epoch) before.lanes ≡ false) × (after ≡ before))
 
+-- a word is set, and the stamp of its object becomes the epoch; nothing else changes
+pub record Writes (before after : TableLists) (obj field value : ℕ) : Type 0 where
+  pub heap : heap_of after.heap ≡ with_word (heap_of before.heap) obj field value
+  pub room : length after.heap ≡ length before.heap
+  pub rest : after ≡ record before { heap = after.heap; headers = adjust (stamped before.epoch) before.headers obj }
+
 -- one word is set, after the version was kept
 pub record Changes (before after : TableLists) (obj field value : ℕ) : Type 0 where
   pub between : TableLists

@@ -36,7 +36,7 @@ impl Model for Table {
 }
 
 impl Table {
-    ghost use Rattle.st_snap.specs.Table.{IsFirst, Makes, KeepsVersion, Changes, ChangesWhere, Launches, retired_at, Reads, AreCopies, HasWords, object_room};
+    ghost use Rattle.st_snap.specs.Table.{IsFirst, Makes, KeepsVersion, Writes, Changes, ChangesWhere, Launches, retired_at, Reads, AreCopies, HasWords, object_room};
 
     /// Before the first event.
     pub fn make(alloc: Global, shape: &Shape, sizes: &Sizes) -> Result<Table, NoMemory>
@@ -89,6 +89,7 @@ impl Table {
     }
 
     /// Sets a word, once the old version is kept for the checks that need it.
+    #[tactic(auto, using(crate::proofs::TableLemmas::kept_cell, crate::proofs::TableLemmas::changes))]
     pub fn change(&mut self, obj: u32, field: u8, value: u64)
         requires cell { IsSome (word_at (heap_of self.old.heap) obj field) }
         requires small { (f : ℕ) → IsSome (word_at (heap_of self.old.heap) obj f) → f < MOST_FIELDS }
@@ -97,6 +98,15 @@ impl Table {
         ensures { Changes self.old self.new obj field value }
     {
         self.keep_version(obj);
+        self.write(obj, field, value);
+    }
+
+    /// Sets a word, and the stamp of its object to the epoch.
+    fn write(&mut self, obj: u32, field: u8, value: u64)
+        requires cell { IsSome (word_at (heap_of self.old.heap) obj field) }
+        requires header { obj < length self.old.headers }
+        ensures { Writes self.old self.new obj field value }
+    {
         self.headers[obj as usize].stamp = self.epoch;
         self.heap.set(obj, field, value);
     }
@@ -124,7 +134,8 @@ impl Table {
         requires small { (f : ℕ) → IsSome (word_at (heap_of self.old.heap) obj f) → f < MOST_FIELDS }
         requires header { obj < length self.old.headers }
         requires lanes { length self.old.lanes ≤ LANES }
-        ensures { KeepsVersion self.old self.new obj }
+        ensures version { KeepsVersion self.old self.new obj }
+        ensures headers { length self.new.headers ≡ length self.old.headers }
     {
         let stamp = self.headers[obj as usize].stamp;
         if some_between(&self.lanes, stamp, self.epoch) {

@@ -4,8 +4,8 @@ use Rattle.st_snap.proofs.HeaderLemmas.{header-same}
 use Rattle.st_snap.proofs.ListLemmas.{adjust-set, found-at}
 use Rattle.st_snap.proofs.tables.Table.keep_version.Goals as goal
 
-pub returns-then-some_between : goal.returns-then-some_between
-returns-then-some_between c =
+pub returns-then-some_between-clause-version : goal.returns-then-some_between-clause-version
+returns-then-some_between-clause-version c =
     let headers = ap (λ (t : TableLists). length t.headers) c.self.view_is in
     let within : c.args.obj < length c.self.inside.headers.items = omega (arith, c.requires.header) in
     let changed : c.forward_to.new.self ≡ sent c.keep-target.result c.self.inside.lanes.items c.index_mut.result.now = header-same c.forward_to.new.self (sent c.keep-target.result c.self.inside.lanes.items c.index_mut.result.now) c.forward_to.ensures.stamp (rw (← c.deref-then-some_between.ensures.value) c.forward_to.ensures.forward) in
@@ -23,8 +23,8 @@ returns-then-some_between c =
       });
     }
 
-pub returns-else-some_between : goal.returns-else-some_between
-returns-else-some_between c =
+pub returns-else-some_between-clause-version : goal.returns-else-some_between-clause-version
+returns-else-some_between-clause-version c =
     let headers = ap (λ (t : TableLists). length t.headers) c.self.view_is in
     let within : c.args.obj < length c.self.inside.headers.items = omega (arith, c.requires.header) in
     rw (← c.self.view_is) record {
