@@ -1,6 +1,8 @@
 -- What the functional run of a well-formed program leaves is a right run
-use Rattle.std.proofs.Common.{◌≡◌, ℕ, zero, suc, ◌+◌, ◌*◌, List, [], ◌∷◌, ◌++◌, length, slice_get, unwrap_or, Some, All, refl, sym, ◌∙◌, ap, subst, arith}
+use Rattle.std.proofs.Common.{◌≡◌, ℕ, zero, suc, ◌+◌, ◌*◌, List, [], ◌∷◌, ◌++◌, length, slice_get, unwrap_or, Some, All, Result, IfOk, refl, sym, ◌∙◌, ap, subst, arith}
 use Rattle.std.proofs.lemmas.List.Elements.{All-from_recursion}
+use Rattle.std.proofs.lemmas.Result.{IfOk-weaker}
+use Rattle.st_events.specs.declared.refusals.NoMemory.{NoMemory}
 use Rattle.st_events.specs.declared.events.Args.{Args}
 use Rattle.st_events.specs.declared.events.Event.{Event}
 use Rattle.st_events.specs.declared.events.Event.TheVariants.{Launch, Retire}
@@ -114,12 +116,6 @@ pub is-run : (program : SmallLists) (sizes : Sizes) (ran : RanLists) (events : L
     ran ≡ record { journal = events; verdicts = verdicts; ends = Finished ∷ []; free = sizes.copies } → ran ≡ run_of program sizes
 is-run program sizes ran events verdicts are is = is ∙ rw (are.0, are.1) refl
 
-pub right-as-run : (program : SmallLists) (ran : RanLists) → IsWellFormed program → ran ≡ run_of program (usual_sizes 1) → IsRightRun program (usual_sizes 1) ran
-right-as-run program ran w is = subst (IsRightRun program (usual_sizes 1)) (sym is) (right-run program (usual_sizes 1) w (room-of-usual program w))
-
-pub truths-as-run : (program : SmallLists) (sizes : Sizes) (ran : RanLists) → ran ≡ run_of program sizes → All IsTruth ran.verdicts
-truths-as-run program sizes ran is = subst (λ (r : RanLists). All IsTruth r.verdicts) (sym is) (truths program)
-
 -- just behind each launch stands the retirement of its check
 retired-next : (shape : ShapeLists) (at : Progress) (body : List SmallStmt) (place m number site : ℕ) (args : Args) → slice_get (events_from shape at body) place ≡ Some (Launch m number site args) →
     slice_get (events_from shape at body) (suc place) ≡ Some (Retire m number)
@@ -132,9 +128,20 @@ retired-next shape at (Check local field value spot ∷ rest) zero m number site
 retired-next shape at (Check local field value spot ∷ rest) (suc zero) m number site args e = cc
 retired-next shape at (Check local field value spot ∷ rest) (suc (suc place)) m number site args e = retired-next shape (after shape at (Check local field value spot)) rest place m number site args e
 
-pub retired-as-run : (program : SmallLists) (sizes : Sizes) (ran : RanLists) → ran ≡ run_of program sizes → AreRetiredAtOnce ran.journal
-retired-as-run program sizes ran is = subst (λ (r : RanLists). AreRetiredAtOnce r.journal) (sym is)
-    (λ place m number site args e. rw (n-plus-one place) (retired-next (classes_of program.fields) (start_of (classes_of program.fields)) program.body place m number site args e))
+retired : (program : SmallLists) → AreRetiredAtOnce (journal_of program)
+retired program place m number site args e =
+    rw (n-plus-one place) (retired-next (classes_of program.fields) (start_of (classes_of program.fields)) program.body place m number site args e)
   where
     n-plus-one : (n : ℕ) → n + 1 ≡ suc n
     n-plus-one n = omega arith
+
+-- what holds of the functional run holds of an answer that is it
+pub right_if_ran : (r : Result RanLists NoMemory) (program : SmallLists) (sizes : Sizes) → IsWellFormed program → sizes ≡ usual_sizes 1 → IfOk r (λ ran. ran ≡ run_of program sizes) → IfOk r (λ ran. IsRightRun program (usual_sizes 1) ran)
+right_if_ran r program sizes w usual is =
+    IfOk-weaker r _ _ (λ ran same. subst (IsRightRun program (usual_sizes 1)) (sym (same ∙ ap (run_of program) usual)) (right-run program (usual_sizes 1) w (room-of-usual program w))) is
+
+pub truths_if_ran : (r : Result RanLists NoMemory) (program : SmallLists) (sizes : Sizes) → IfOk r (λ ran. ran ≡ run_of program sizes) → IfOk r (λ ran. All IsTruth ran.verdicts)
+truths_if_ran r program sizes is = IfOk-weaker r _ _ (λ ran same. subst (λ (x : RanLists). All IsTruth x.verdicts) (sym same) (truths program)) is
+
+pub retired_if_ran : (r : Result RanLists NoMemory) (program : SmallLists) (sizes : Sizes) → IfOk r (λ ran. ran ≡ run_of program sizes) → IfOk r (λ ran. AreRetiredAtOnce ran.journal)
+retired_if_ran r program sizes is = IfOk-weaker r _ _ (λ ran same. subst (λ (x : RanLists). AreRetiredAtOnce x.journal) (sym same) (retired program)) is

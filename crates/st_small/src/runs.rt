@@ -16,6 +16,7 @@ use std::alloc::Global;
 
 /// Runs the program with the usual sizes, to its end. What it leaves is right: one legal history, whole, with the plain
 /// value of each check on the heap as it stood at its launch.
+#[tactic(auto, using(crate::proofs::RunLemmas::right_if_ran))]
 pub fn run_small(alloc: Global, small: &Small) -> Result<Ran, NoMemory>
     requires { IsWellFormed small.now }
     ensures right { IfOk result (λ ran. IsRightRun small.now (usual_sizes 1) ran) }
@@ -33,7 +34,9 @@ fn run_with(alloc: Global, small: &Small, sizes: &Sizes) -> Result<Ran, NoMemory
     requires small { IsWellFormed small.now }
     requires fit { AreWithinLimits sizes.now }
     requires room { HaveRoom small.now sizes.now }
-    ensures { IfOk result (λ ran. ran ≡ run_of small.now sizes.now) }
+    ensures run { IfOk result (λ ran. ran ≡ run_of small.now sizes.now) }
+    ensures truths { IfOk result (λ ran. All IsTruth ran.verdicts) }
+    ensures at_once { IfOk result (λ ran. AreRetiredAtOnce ran.journal) }
 {
     let mut machine = start(alloc, small, sizes)?;
     run_body(&mut machine, small.body.as_slice())?;

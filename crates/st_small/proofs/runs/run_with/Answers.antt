@@ -1,6 +1,6 @@
 use Rattle.std.proofs.Common.{◌≡◌, ap, ◌∙◌}
 use Rattle.std.proofs.lemmas.Result.{IfOk-weaker}
-use Rattle.st_small.proofs.RunLemmas.{can-do-first, written, is-run}
+use Rattle.st_small.proofs.RunLemmas.{can-do-first, written, is-run, retired_if_ran, truths_if_ran}
 use Rattle.st_small.proofs.runs.run_with.Goals as goal
 
 pub run_body-requires-clause-can_do : goal.run_body-requires-clause-can_do
@@ -15,4 +15,9 @@ returns c =
     let start = c.in_ok-machine.ensures in
     let done = c.in_ok-run_body.ensures in
     let all = written c.args.small.now c.in_ok-machine.machine c.run_body.new.machine c.as_slice.result.now body start.shape start.heap start.journal start.verdicts done.events done.verdicts in
-    IfOk-weaker c.finish.result _ _ (λ ran is. is-run c.args.small.now c.args.sizes.now ran _ _ all is) c.finish.ensures
+    let run = IfOk-weaker c.finish.result _ _ (λ ran is. is-run c.args.small.now c.args.sizes.now ran _ _ all is) c.finish.ensures in
+    record {
+      run = run;
+      truths = truths_if_ran c.finish.result c.args.small.now c.args.sizes.now run;
+      at_once = retired_if_ran c.finish.result c.args.small.now c.args.sizes.now run;
+    }
