@@ -1,4 +1,4 @@
-use Rattle.std.specs.Prelude.{ℕ, ◌==◌, cond, List, map, slice_get, slice_set, Option, Some, None, option_map}
+use Rattle.std.specs.Prelude.{ℕ, ◌==◌, if◌then◌else◌, List, map, slice_get, slice_set, Option, Some, None, option_map}
 use Rattle.std.specs.Option.{option_flatten}
 use Rattle.st_events.specs.declared.heaps.TheConstants.{SHARED_OBJECT}
 use Rattle.st_events.specs.Shape.{ShapeLists, kinds_of}
@@ -27,7 +27,7 @@ class_at heap obj = option_map (λ x. x.class) (heap obj)
 
 -- the heap with this object at this number
 abbrev pub with_object : Heap → ℕ → Object → Heap
-with_object heap obj x = λ o. cond (o == obj) (Some x) (heap o)
+with_object heap obj x = λ o. if o == obj then Some x else heap o
 
 -- the object with one word set
 abbrev pub set_word : ℕ → ℕ → Object → Object
@@ -35,7 +35,7 @@ set_word field value x = record x { words = slice_set x.words field value }
 
 -- the heap with one word of an object set
 abbrev pub with_word : Heap → ℕ → ℕ → ℕ → Heap
-with_word heap obj field value = λ o. cond (o == obj) (option_map (set_word field value) (heap o)) (heap o)
+with_word heap obj field value = λ o. if o == obj then option_map (set_word field value) (heap o) else heap o
 
 -- a new object of a class: every word is 0
 abbrev pub fresh : ShapeLists → ℕ → Object
@@ -43,7 +43,7 @@ fresh shape class = record { class = class; words = map (λ _. 0) (kinds_of shap
 
 -- the heap before the first event: the shared object alone, of class 0
 abbrev pub first_heap : ShapeLists → Heap
-first_heap shape = λ o. cond (o == SHARED_OBJECT) (Some (fresh shape 0)) None
+first_heap shape = λ o. if o == SHARED_OBJECT then Some (fresh shape 0) else None
 
 -- the heap of a list that has at each number the object, if one was made; past its end there is none
 abbrev pub heap_of : List (Option Object) → Heap

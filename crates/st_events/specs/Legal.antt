@@ -1,4 +1,4 @@
-use Rattle.std.specs.Prelude.{◌≡◌, ℕ, ◌+◌, ◌*◌, ◌==◌, nat_lt, nat_le, Bool, true, false, not, ◌&&◌, ◌||◌, cond}
+use Rattle.std.specs.Prelude.{◌≡◌, ℕ, ◌+◌, ◌*◌, ◌==◌, nat_lt, nat_le, Bool, true, false, not, ◌&&◌, ◌||◌, if◌then◌else◌}
 use Rattle.std.specs.Prelude.{List, [], ◌∷◌, ◌++◌, length, drop, Option, Some, None, is_some, slice_get}
 use Rattle.std.specs.List.{list_all}
 use Rattle.st_events.specs.declared.events.Event.{Event}
@@ -76,7 +76,7 @@ pub record Rule : Type 0 where
 -- the reason of the first test that fails
 abbrev pub first_failing : List Rule → Option Why
 first_failing [] = None
-first_failing (rule ∷ rules) = cond rule.holds (first_failing rules) (Some rule.reason)
+first_failing (rule ∷ rules) = if rule.holds then first_failing rules else Some rule.reason
 
 -- what is asked of an event after the events that made this world, in the order in which a fault is answered
 abbrev pub rules_of : ShapeLists → Sizes → World → Event → List Rule

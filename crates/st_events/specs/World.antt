@@ -1,4 +1,4 @@
-use Rattle.std.specs.Prelude.{ℕ, ◌+◌, ◌==◌, nat_lt, Bool, cond, not, ◌&&◌, List, [], ◌∷◌, ◌++◌, length, map, filter, Option, Some, None}
+use Rattle.std.specs.Prelude.{ℕ, ◌+◌, ◌==◌, nat_lt, Bool, if◌then◌else◌, not, ◌&&◌, List, [], ◌∷◌, ◌++◌, length, map, filter, Option, Some, None}
 use Rattle.std.specs.List.{list_any}
 use Rattle.st_events.specs.declared.events.Event.{Event}
 use Rattle.st_events.specs.declared.events.Event.TheVariants.{New, Load, Store, Cas, Launch, Retire}
@@ -38,7 +38,7 @@ pub record World : Type 0 where
 
 -- the function, but for one argument
 abbrev pub at : {A : Type 0} → ℕ → A → (ℕ → A) → ℕ → A
-at k x f = λ n. cond (n == k) x (f n)
+at k x f = λ n. if n == k then x else f n
 
 -- before the first event there is the shared object alone
 abbrev pub first_world : ShapeLists → World
@@ -68,11 +68,11 @@ row_if_needed obj (n ∷ ns) = record { obj = obj; checks = n ∷ ns } ∷ []
 
 -- the rows after a change of the object: one more where some check needs its old version and a copy is left
 abbrev pub kept_at_change : Sizes → World → ℕ → List Row
-kept_at_change sizes w obj = cond (is_full sizes w) w.kept (w.kept ++ row_if_needed obj (needing_in w obj))
+kept_at_change sizes w obj = if is_full sizes w then w.kept else (w.kept ++ row_if_needed obj (needing_in w obj))
 
 -- the pairs after a change of the object: where no copy is left, its old version is lost for each check that needs it
 abbrev pub lost_at_change : Sizes → World → ℕ → List Pair
-lost_at_change sizes w obj = cond (is_full sizes w) (w.lost ++ map (λ n. record { obj = obj; check = n }) (needing_in w obj)) w.lost
+lost_at_change sizes w obj = if is_full sizes w then (w.lost ++ map (λ n. record { obj = obj; check = n }) (needing_in w obj)) else w.lost
 
 -- after one word of an object was set
 abbrev pub changed : Sizes → World → ℕ → ℕ → ℕ → World
@@ -113,7 +113,7 @@ next shape sizes w (New m obj class) = record w {
 }
 next shape sizes w (Load m obj field value) = w
 next shape sizes w (Store m obj field value) = changed sizes w obj field value
-next shape sizes w (Cas m obj field expect value done) = cond done (changed sizes w obj field value) w
+next shape sizes w (Cas m obj field expect value done) = if done then changed sizes w obj field value else w
 next shape sizes w (Launch m number site args) = record w {
   epoch = w.epoch + 1;
   launched = at number (Some (record { past = w.heap; thread = m; site = site; args = args })) w.launched;

@@ -6,6 +6,10 @@ pub record Counted : Type 0 where
   pub faults : ℕ
   pub taken : ℕ
 
+-- so many calls were refused, and so many bytes were taken
+abbrev pub counted : ℕ → ℕ → Counted
+counted faults taken = record { faults = faults; taken = taken }
+
 -- the bytes of no file are told
 abbrev pub untold : List ℕ → Option (List ℕ)
 untold _ = None

@@ -1,5 +1,6 @@
 //! A sink in memory, for tests.
-ghost use Rattle.std.specs.Prelude.{◌≡◌, ◌+◌, ◌^◌, ◌<◌, ◌≤◌, ◌++◌, ◌↔◌, [], length, if◌then◌else◌, nat_lt, take, vec_len, vec_capacity, IfOk, OnOk, OnErr, IsErr, IsSome, Some};
+ghost use Rattle.std.specs.Prelude.{◌≡◌, ◌+◌, ◌^◌, ◌<◌, ◌≤◌, ◌++◌, ◌↔◌, [], length};
+ghost use Rattle.std.specs.Prelude.{if◌then◌else◌, nat_lt, take, vec_len, vec_capacity, IfOk, OnOk, OnErr, IsErr, IsSome, Some};
 ghost use Rattle.st_io.specs.Counts.{RoseBy};
 ghost use Rattle.st_io.specs.Growth.{Grows, GrowsByPrefix};
 ghost use Rattle.st_io.specs.MemorySink.{cut_of, cut, sink_after};

@@ -1,7 +1,9 @@
 use Rattle.std.specs.Prelude.{◌≡◌, ℕ, ◌+◌, ◌-◌, ◌*◌, ◌<◌}
 use Rattle.st_layout.specs.declared.plans.Plan.{Plan}
-use Rattle.st_layout.specs.declared.places.TheConstants.{CLOSING_PLACE, CLOCK_PLACE, EPOCH_PLACE, AVAILABLE_PLACE, FLAGS_PLACE, CLASS_PLACE, HEADER_PLACE, FORWARDS_PLACE, FIELDS_PLACE, CELL_WORDS, COPY_WORDS, ROW_WORDS}
-use Rattle.st_layout.specs.Names.{WordName, ClosingWord, ClockWord, EpochWord, AvailableWord, FlagWord, LaneWord, ClassWord, HeaderWord, ForwardWord, FieldWord, CopyWord, FreeWord, RowWord, HasWord, cells_of}
+use Rattle.st_layout.specs.declared.places.TheConstants.{CLOSING_PLACE, CLOCK_PLACE, EPOCH_PLACE, AVAILABLE_PLACE, FLAGS_PLACE}
+use Rattle.st_layout.specs.declared.places.TheConstants.{CLASS_PLACE, HEADER_PLACE, FORWARDS_PLACE, FIELDS_PLACE, CELL_WORDS, COPY_WORDS, ROW_WORDS}
+use Rattle.st_layout.specs.Names.{WordName, ClosingWord, ClockWord, EpochWord, AvailableWord, FlagWord, LaneWord, ClassWord, HeaderWord}
+use Rattle.st_layout.specs.Names.{ForwardWord, FieldWord, CopyWord, FreeWord, RowWord, HasWord, cells_of}
 
 -- the lane words follow the flags, one for each mutator and one for main
 abbrev pub first_lane : Plan → ℕ

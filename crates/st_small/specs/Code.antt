@@ -1,5 +1,5 @@
 -- What a thread does: by big steps over its statements, from the replies that it has had so far.
-use Rattle.std.specs.Prelude.{◌≡◌, ℕ, ◌+◌, ◌-◌, nat_lt, cond, List, [], ◌∷◌, ◌++◌, length, slice_get, unwrap_or}
+use Rattle.std.specs.Prelude.{◌≡◌, ℕ, ◌+◌, ◌-◌, nat_lt, if◌then◌else◌, List, [], ◌∷◌, ◌++◌, length, slice_get, unwrap_or}
 use Rattle.st_events.specs.declared.events.Event.{Event}
 use Rattle.st_events.specs.declared.events.Event.TheVariants.{New, Load, Store, Cas, Launch, Retire}
 use Rattle.st_events.specs.declared.events.Args.{Args}
@@ -48,7 +48,8 @@ asking request (reply ∷ replies) rest = rest reply replies
 
 -- the charge is taken; where less is left than the cost, the thread ends before the step
 abbrev pub paying : ℕ → Locals → (Locals → Course) → Course
-paying cost locals rest = cond (nat_lt locals.charge cost) (stops (ends EventsSpent)) (rest (record locals { charge = locals.charge - cost }))
+paying cost locals rest =
+    if nat_lt locals.charge cost then stops (ends EventsSpent) else rest (record locals { charge = locals.charge - cost })
 
 -- the value of a local
 abbrev pub value_of : Locals → ℕ → ℕ
@@ -94,7 +95,7 @@ abbrev pub reply_of : Event → ℕ
 reply_of (New m obj class) = obj
 reply_of (Load m obj field value) = value
 reply_of (Store m obj field value) = 0
-reply_of (Cas m obj field expect value done) = cond done 1 0
+reply_of (Cas m obj field expect value done) = if done then 1 else 0
 reply_of (Launch m number site args) = 0
 reply_of (Retire m number) = 0
 

@@ -1,5 +1,5 @@
 -- What a small program is to the heap, and the value of its checks.
-use Rattle.std.specs.Prelude.{ℕ, Bool, cond, List, [], ◌∷◌, All, map, Option, Some, None, slice_get, slice_index}
+use Rattle.std.specs.Prelude.{ℕ, Bool, if◌then◌else◌, List, [], ◌∷◌, All, map, Option, Some, None, slice_get, slice_index}
 use Rattle.st_events.specs.declared.shapes.Kind.TheVariants.{Ref}
 use Rattle.st_events.specs.declared.events.Args.{Args}
 use Rattle.st_events.specs.declared.verdicts.Plain.{Plain}
@@ -38,7 +38,7 @@ argument_of args = slice_index args.words 0
 
 -- true is Holds, false is Fails
 abbrev pub plain_of : Bool → Plain
-plain_of holds = cond holds Holds Fails
+plain_of holds = if holds then Holds else Fails
 
 -- whether a comparison holds on a heap of the object that is its argument
 abbrev pub comparison_holds : Heap → ℕ → Comparison → Bool

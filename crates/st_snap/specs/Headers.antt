@@ -1,11 +1,11 @@
-use Rattle.std.specs.Prelude.{ℕ, nat_lt, cond, List, [], ◌∷◌, Option, Some, None}
+use Rattle.std.specs.Prelude.{ℕ, nat_lt, if◌then◌else◌, List, [], ◌∷◌, Option, Some, None}
 use Rattle.st_snap.specs.declared.headers.Forward.{Forward}
 use Rattle.st_snap.specs.declared.headers.Target.{Target}
 
 -- the forwarding word of a lane after a change of an object with this stamp: a check launched after the stamp is sent to the target
 abbrev pub forward_one : ℕ → Target → Option ℕ → Forward → Forward
 forward_one stamp target None before = before
-forward_one stamp target (Some number) before = cond (nat_lt stamp number) (record { epoch = number; target = target }) before
+forward_one stamp target (Some number) before = if nat_lt stamp number then record { epoch = number; target = target } else before
 
 -- the same of every lane
 abbrev pub forward_all : ℕ → Target → List (Option ℕ) → List Forward → List Forward

@@ -1,4 +1,4 @@
-use Rattle.std.specs.Prelude.{ℕ, ◌==◌, nat_lt, nat_le, Bool, true, false, ◌&&◌, cond, List, [], ◌∷◌, map, position, slice_set, replicate, Option, Some, None}
+use Rattle.std.specs.Prelude.{ℕ, ◌==◌, nat_lt, nat_le, Bool, true, false, ◌&&◌, if◌then◌else◌, List, [], ◌∷◌, map, position, slice_set, replicate, Option, Some, None}
 use Rattle.st_events.specs.declared.events.Event.{Event}
 use Rattle.st_events.specs.declared.events.Event.TheVariants.{New, Load, Store, Cas, Launch, Retire}
 
@@ -28,7 +28,7 @@ put_at number lanes (Some index) = slice_set lanes index (Some number)
 
 -- a lane once a check has left
 abbrev pub cleared : ℕ → Option ℕ → Option ℕ
-cleared number lane = cond (has_check number lane) None lane
+cleared number lane = if has_check number lane then None else lane
 
 -- the lanes after one more event: a launched check takes the first idle lane, and leaves it when it is retired
 abbrev pub next_lanes : List (Option ℕ) → Event → List (Option ℕ)

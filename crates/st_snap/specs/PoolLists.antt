@@ -1,4 +1,4 @@
-use Rattle.std.specs.Prelude.{◌≡◌, ℕ, ◌+◌, ◌^◌, ◌==◌, ◌<◌, ◌≤◌, nat_lt, Bool, not, cond, List, [], length, map, count_by, slice_index_or, Option}
+use Rattle.std.specs.Prelude.{◌≡◌, ℕ, ◌+◌, ◌^◌, ◌==◌, ◌<◌, ◌≤◌, nat_lt, Bool, not, if◌then◌else◌, List, [], length, map, count_by, slice_index_or, Option}
 use Rattle.std.specs.List.{list_any}
 use Rattle.st_snap.specs.Lanes.{is_between}
 use Rattle.st_snap.specs.declared.pools.Version.{Version}
@@ -22,7 +22,7 @@ pub record IsPool (words : List (List ℕ)) (free : List ℕ) (kept : List Versi
   pub free_fits : length words ≤ room_free
   pub kept_fits : length words ≤ room_kept
   pub all : length free + length kept ≡ length words
-  pub once : (copy : ℕ) → uses free kept copy ≡ cond (nat_lt copy (length words)) 1 0
+  pub once : (copy : ℕ) → uses free kept copy ≡ (if nat_lt copy (length words) then 1 else 0)
 
 -- whether no check at a lane reads the version
 abbrev pub is_unread : List (Option ℕ) → Version → Bool

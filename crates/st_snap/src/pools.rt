@@ -1,5 +1,6 @@
 //! The pool of copies: each is free, or holds the words of one old version, which several checks share.
-ghost use Rattle.std.specs.Prelude.{◌≡◌, ℕ, ◌+◌, ◌-◌, ◌<◌, ◌≤◌, ◌==◌, nat_lt, cond, not, count_by, map, [], ◌++◌, length, filter, slice_index, vec_len, vec_capacity, IfOk};
+ghost use Rattle.std.specs.Prelude.{◌≡◌, ℕ, ◌+◌, ◌-◌, ◌<◌, ◌≤◌, ◌==◌};
+ghost use Rattle.std.specs.Prelude.{nat_lt, if◌then◌else◌, not, count_by, map, [], ◌++◌, length, filter, slice_index, vec_len, vec_capacity, IfOk};
 ghost use Rattle.std.specs.List.{Contains, list_any};
 ghost use Rattle.st_snap.specs.Lanes.{is_between};
 
@@ -109,7 +110,7 @@ impl Pool {
 
 /// The numbers from 0 up to below `count`.
 fn all_numbers(alloc: Global, count: u32) -> Result<Vec<u32>, NoMemory>
-    ensures once { IfOk result (λ v. (number : ℕ) → count_by (λ n. n == number) v.items ≡ cond (nat_lt number count) 1 0) }
+    ensures once { IfOk result (λ v. (number : ℕ) → count_by (λ n. n == number) v.items ≡ (if nat_lt number count then 1 else 0)) }
     ensures len { IfOk result (λ v. vec_len v ≡ count) }
     ensures room { IfOk result (λ v. count ≤ vec_capacity v) }
 {

@@ -1,5 +1,6 @@
 -- The report of a run: which lines it has, and what each of them says.
-use Rattle.std.specs.Prelude.{ℕ, ◌-◌, Bool, true, false, ◌&&◌, not, List, [], ◌∷◌, ◌++◌, length, map, count_by, codes, Option, Some, None, slice_get, option_and_then, if◌then◌else◌}
+use Rattle.std.specs.Prelude.{ℕ, ◌-◌, Bool, true, false, ◌&&◌, not, List, [], ◌∷◌, ◌++◌, length}
+use Rattle.std.specs.Prelude.{map, count_by, codes, Option, Some, None, slice_get, option_and_then, if◌then◌else◌}
 use Rattle.std.specs.List.{flat_map, filter_map, enumerate_from, zip, list_any}
 use Rattle.std.specs.Fmt.{decimal}
 use Rattle.st_events.specs.declared.events.Event.{Event}
@@ -76,7 +77,10 @@ is_other verdict = not (is_holds verdict) && not (is_fails verdict)
 -- how many checks there are, and how many of them hold, fail, or have another verdict
 abbrev pub count_line : List Verdict → List ℕ
 count_line verdicts =
-    codes "checks " ++ (decimal (length verdicts) ++ (codes " holds " ++ (decimal (count_by is_holds verdicts) ++ (codes " fails " ++ (decimal (count_by is_fails verdicts) ++ (codes " other " ++ (decimal (count_by is_other verdicts) ++ codes "\n")))))))
+    codes "checks " ++ (decimal (length verdicts)
+    ++ (codes " holds " ++ (decimal (count_by is_holds verdicts)
+    ++ (codes " fails " ++ (decimal (count_by is_fails verdicts)
+    ++ (codes " other " ++ (decimal (count_by is_other verdicts) ++ codes "\n")))))))
 
 -- all lines: for each thread those of its launches, for each thread that of its end, and the counts
 unfoldable pub report_lines : Heads → RanLists → List (List ℕ)
