@@ -1,5 +1,5 @@
 -- From what a call leaves to what its status tells.
-use Rattle.std.proofs.Common.{◌≡◌, ◌≢◌, ℕ, List, [], ◌∷◌, All, Option, Some, None, IsSome, IfSome, IfNone, Bool, true, false, ◌⊎◌, ◌↔◌, IsTrue, inl, inr, refl, ◌∙◌, subst, arith}
+use Rattle.std.proofs.Common.{◌≡◌, ◌≢◌, ℕ, List, [], ◌∷◌, Option, Some, None, IsSome, IfSome, IfNone, Bool, true, false, ◌⊎◌, ◌↔◌, IsTrue, inl, inr, refl, ◌∙◌, subst, arith}
 use Rattle.std.proofs.lemmas.List.Elements.{recursion_from_All}
 use Rattle.std.specs.List.{AllByRecursion, list_any}
 use Rattle.st_events.specs.declared.verdicts.Plain.TheVariants.{Holds, Fails}
@@ -16,7 +16,7 @@ use Rattle.st_top.specs.Putting.{IsPut}
 use Rattle.st_small.specs.Right.{IsTruth}
 use Rattle.st_top.specs.Report.{joined, is_fault, is_undecided, report_text, run_status, some_fails}
 use Rattle.std.specs.Option.{option_and_then}
-use Rattle.st_top.specs.Sources.{HasReport, IsRunOf, IsRunOfText, IsSourceOf, IsAccepted, source_of}
+use Rattle.st_top.specs.Sources.{HasReport, IsRunOf, IsRunOfText, IsAccepted, source_of}
 use Rattle.st_top.specs.Words.{named_file}
 use Rattle.st_top.specs.declared.refusals.Refusal.{Refusal}
 use Rattle.st_top.specs.declared.refusals.Refusal.TheVariants.{Words, NoMemory, ReadFault, SourceTooLong, SourceNotBuilt}

@@ -1,7 +1,7 @@
 //! The rows of the program, over files and a sink in memory.
 
 use crate::outcomes::Outcome;
-use crate::{strobe, strobe_on_text};
+use crate::{Refusal, refuse, strobe, strobe_on_text};
 use st_events::{Event, NoMemory};
 use st_io::{MemFiles, MemSink, NoPace};
 use std::alloc::{AllocError, Global};
@@ -187,5 +187,15 @@ fn a_text_in_memory_is_run_without_a_device(rt: HostRuntime) -> Result<(), Fail>
         let text = text.as_bytes().to_vec(alloc)?;
         assert_eq!(rt; strobe_on_text(&rt, alloc, &words, text).status, status);
     }
+    Ok(())
+}
+
+#[test]
+fn a_refusal_is_its_line_and_its_status(rt: HostRuntime) -> Result<(), Fail> {
+    let mut out = MemSink::with_room(rt.alloc(), 100, Vec::new(rt.alloc())).expect(&rt, "memory");
+    let outcome = refuse(Refusal::NoMemory, &mut out);
+    assert_eq!(rt; outcome.status, 7);
+    assert!(rt; outcome.ran.is_none());
+    assert_eq!(rt; out.bytes(), "no memory\n".as_bytes());
     Ok(())
 }

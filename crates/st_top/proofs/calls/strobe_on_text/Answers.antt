@@ -1,4 +1,4 @@
-use Rattle.std.proofs.Common.{◌≡◌, ◌≢◌, ℕ, List, Option, Some, IsSome, ap, ◌∙◌, arith}
+use Rattle.std.proofs.Common.{◌≡◌, ◌≢◌, Some, IsSome, ap, ◌∙◌, arith}
 use Rattle.st_top.specs.Sources.{source_of}
 use Rattle.st_top.specs.Words.{texts, named_file}
 use Rattle.st_top.proofs.OutcomeLemmas.{accepted-runs, check_fails-surely, runs-the-text, source_of-one_text, text-refused-exactly}
