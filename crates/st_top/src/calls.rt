@@ -29,6 +29,12 @@ use std::thread::Threads;
 /// write that failed, a check that fails, and 0. All memory for a report is had before any of it is written. Each line is
 /// put by one call, with its newline, and nothing is put after a put that failed. The call waits for nobody, and does not
 /// use its pace.
+///
+/// The clause `run` says, of sources of the small form, in which no check is ever Abandoned: If a run of an accepted program
+/// returns without device fault or want of memory, its journal is one legal history of a one-thread heap, holding each
+/// mutator's steps once, in its order and to its end; every launched check has one verdict, the predicate's plain value on
+/// the heap replayed up to that launch, or Abandoned, only where the full copy pool lost a version that this evaluation
+/// reads.
 pub fn strobe<R: Threads + Wait + Sync, F: Files, S: Sink, P: Pace + Sync>(
     _rt: &R,
     alloc: Global,
