@@ -1,5 +1,7 @@
 //! Rows of small journals, with the answers that the rules of the heap give.
 
+mod limits;
+
 use crate::{Args, Event, HeapMap, Journal, Kind, ReplayError, Shape, Sizes, Why, replay};
 use std::alloc::{AllocError, Global};
 use std::test::Fail;
