@@ -1,4 +1,5 @@
-//! Files that are always there and a sink that takes everything, for tests and for runs over a text in memory: their counts of faults are always 0.
+//! Files that are always there and a sink that takes everything, for tests and for runs over a text in memory. Their
+//! counts of faults are always 0.
 ghost use Rattle.std.specs.Prelude.{◌≡◌};
 
 use crate::faults::{FilesFault, SinkFault};
