@@ -7,8 +7,8 @@ pub record Counted : Type 0 where
   pub taken : ℕ
 
 -- so many calls were refused, and so many bytes were taken
-abbrev pub counted : ℕ → ℕ → Counted
-counted faults taken = record { faults = faults; taken = taken }
+abbrev pub counts_of : ℕ → ℕ → Counted
+counts_of faults taken = record { faults = faults; taken = taken }
 
 -- the bytes of no file are told
 abbrev pub untold : List ℕ → Option (List ℕ)

@@ -1,7 +1,7 @@
 //! The top call, and the same over a text in memory.
 ghost use Rattle.std.specs.Prelude.{◌≡◌, ◌≢◌, ◌⊎◌, ◌↔◌, IsTrue, IsSome, None, IfOk, IfErr, IfSome, IfNone};
 ghost use Rattle.st_io.specs.Counts.{RoseBy};
-ghost use Rattle.st_io.specs.Device.{counted};
+ghost use Rattle.st_io.specs.Device.{counts_of};
 ghost use Rattle.st_top.specs.Causes.{HasCause};
 ghost use Rattle.st_top.specs.Outcomes.{IsReported, IsRefused, IsRefusedExactly, IsStatusOfRun};
 ghost use Rattle.st_top.specs.Report.{some_fails};
@@ -58,8 +58,8 @@ pub fn strobe<R: Threads + Wait + Sync, F: Files, S: Sink, P: Pace + Sync>(
         (S.written out.old) (S.written out.new) (S.faults out.old) (S.faults out.new)) }
     ensures refused { IfNone result.ran (IsRefused (named_file (texts words.now))
         (source_of (F.told files.old) (texts words.now))
-        (counted (F.faults files.old) (F.taken files.old))
-        (counted (F.faults files.new) (F.taken files.new)) result.status
+        (counts_of (F.faults files.old) (F.taken files.old))
+        (counts_of (F.faults files.new) (F.taken files.new)) result.status
         (S.written out.old) (S.written out.new) (S.faults out.old) (S.faults out.new)) }
 {
     answer(alloc, words, files, out)
@@ -96,8 +96,8 @@ fn answer<F: Files, S: Sink>(alloc: Global, words: &[String], files: &mut F, out
     ensures run { IfSome result.ran (λ ran. IsReported (named_file (texts words.now)) (source_of (F.told files.old) (texts words.now)) result.status ran
         (S.written out.old) (S.written out.new) (S.faults out.old) (S.faults out.new)) }
     ensures refused { IfNone result.ran (IsRefused (named_file (texts words.now)) (source_of (F.told files.old) (texts words.now))
-        (counted (F.faults files.old) (F.taken files.old))
-        (counted (F.faults files.new) (F.taken files.new)) result.status
+        (counts_of (F.faults files.old) (F.taken files.old))
+        (counts_of (F.faults files.new) (F.taken files.new)) result.status
         (S.written out.old) (S.written out.new) (S.faults out.old) (S.faults out.new)) }
 {
     match run_words(alloc, words, files) {
@@ -111,8 +111,8 @@ fn run_words<F: Files>(alloc: Global, words: &[String], files: &mut F) -> Result
     ensures named { IfOk result (λ _. IsSome (named_file (texts words.now))) }
     ensures right { IfOk result (λ finished. HasReport (source_of (F.told files.old) (texts words.now)) finished.ran finished.report) }
     ensures cause { IfErr result (λ refusal. HasCause (named_file (texts words.now)) (source_of (F.told files.old) (texts words.now))
-        (counted (F.faults files.old) (F.taken files.old))
-        (counted (F.faults files.new) (F.taken files.new)) refusal) }
+        (counts_of (F.faults files.old) (F.taken files.old))
+        (counts_of (F.faults files.new) (F.taken files.new)) refusal) }
 {
     match file_named(words) {
         Some(name) => run_file(alloc, files, name),

@@ -1,6 +1,6 @@
 //! From the name of a file to a run of the source in it.
 ghost use Rattle.std.specs.Prelude.{◌≡◌, ◌≤◌, length, IfOk, IfErr, IfSome, Some};
-ghost use Rattle.st_io.specs.Device.{counted};
+ghost use Rattle.st_io.specs.Device.{counts_of};
 ghost use Rattle.st_top.specs.Causes.{HasCause, IsBuildRefusal};
 ghost use Rattle.st_top.specs.Sources.{HasReport};
 
@@ -25,8 +25,8 @@ fn read_source<F: Files>(alloc: Global, files: &mut F, name: &str) -> Result<Vec
     ensures whole { IfOk result (λ text. IfSome (F.told files.old name.now) (λ told. text.items ≡ told)) }
     ensures within { IfOk result (λ text. length text.items ≤ MOST_SOURCE_BYTES) }
     ensures cause { IfErr result (λ refusal. HasCause (Some name.now) (F.told files.old name.now)
-        (counted (F.faults files.old) (F.taken files.old))
-        (counted (F.faults files.new) (F.taken files.new)) refusal) }
+        (counts_of (F.faults files.old) (F.taken files.old))
+        (counts_of (F.faults files.new) (F.taken files.new)) refusal) }
 {
     let mut text = Vec::new(alloc);
     match files.read_whole(name, MOST_SOURCE_BYTES as u32, &mut text) {
@@ -55,8 +55,8 @@ pub(crate) fn run_file<F: Files>(
 ) -> Result<Finished, Refusal>
     ensures right { IfOk result (λ finished. HasReport (F.told files.old name.now) finished.ran finished.report) }
     ensures cause { IfErr result (λ refusal. HasCause (Some name.now) (F.told files.old name.now)
-        (counted (F.faults files.old) (F.taken files.old))
-        (counted (F.faults files.new) (F.taken files.new)) refusal) }
+        (counts_of (F.faults files.old) (F.taken files.old))
+        (counts_of (F.faults files.new) (F.taken files.new)) refusal) }
 {
     let text = read_source(alloc, files, name)?;
     run_source(alloc, &text)
