@@ -7,10 +7,10 @@ use Rattle.st_events.specs.declared.events.Site.{Site}
 use Rattle.st_events.specs.declared.limits.Sizes.{Sizes}
 use Rattle.st_events.specs.declared.verdicts.End.TheVariants.{Finished}
 use Rattle.st_events.specs.History.{own_events}
-use Rattle.st_parse.specs.declared.programs.SmallStmt.{SmallStmt}
-use Rattle.st_parse.specs.declared.programs.SmallStmt.TheVariants.{Make, Put, Check}
-use Rattle.st_parse.specs.Small.{SmallLists}
-use Rattle.st_parse.specs.Sound.{AreSound}
+use Rattle.st_small_source.specs.declared.programs.SmallStmt.{SmallStmt}
+use Rattle.st_small_source.specs.declared.programs.SmallStmt.TheVariants.{Make, Put, Check}
+use Rattle.st_small_source.specs.Small.{SmallLists}
+use Rattle.st_small_source.specs.Sound.{AreSound}
 use Rattle.st_small.specs.Code.{Locals, block_course, turn_of, next_request, value_of, FollowsAfter}
 use Rattle.st_small.specs.Running.{Progress, after, classes_of, events_from}
 use Rattle.st_small.proofs.LegalLemmas.{slice_get-seam}

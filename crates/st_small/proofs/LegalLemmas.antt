@@ -12,9 +12,9 @@ use Rattle.st_events.specs.declared.shapes.Kind.TheVariants.{Int, Ref}
 use Rattle.st_events.specs.Heap.{Heap, Object, class_at, word_at}
 use Rattle.st_events.specs.World.{World, next}
 use Rattle.st_events.specs.Legal.{IsLegalNext, IsLegalFrom, fits_cell, has_kind_if_any, kind_of, is_of_class, next_object}
-use Rattle.st_parse.specs.declared.programs.SmallStmt.{SmallStmt}
-use Rattle.st_parse.specs.declared.programs.SmallStmt.TheVariants.{Make, Put, Check}
-use Rattle.st_parse.specs.Small.{SmallLists}
+use Rattle.st_small_source.specs.declared.programs.SmallStmt.{SmallStmt}
+use Rattle.st_small_source.specs.declared.programs.SmallStmt.TheVariants.{Make, Put, Check}
+use Rattle.st_small_source.specs.Small.{SmallLists}
 use Rattle.st_small.specs.Program.{checks_of, shape_of}
 use Rattle.st_small.specs.Code.{one_argument}
 use Rattle.st_small.specs.Running.{HaveRoom, classes_of, events_from}

@@ -2,8 +2,8 @@
 use Rattle.std.proofs.Common.{◌≡◌, ℕ, ◌+◌, ◌≤◌, List, ◌∷◌, ◌++◌, length, OnOk, Result, Ok, Err, ap, append_assoc, length-append, arith}
 use Rattle.st_events.specs.declared.events.Event.{Event}
 use Rattle.st_events.specs.declared.verdicts.Verdict.{Verdict}
-use Rattle.st_parse.specs.declared.programs.SmallStmt.{SmallStmt}
-use Rattle.st_parse.specs.declared.programs.SmallStmt.TheVariants.{Make, Put, Check}
+use Rattle.st_small_source.specs.declared.programs.SmallStmt.{SmallStmt}
+use Rattle.st_small_source.specs.declared.programs.SmallStmt.TheVariants.{Make, Put, Check}
 use Rattle.st_small.specs.declared.machines.Machine.{Machine}
 use Rattle.st_small.specs.Running.{events_from, verdicts_from, events_of, verdicts_of, CanDoAll, Progress, after}
 use Rattle.st_small.specs.Machine.{IsStep, HasDoneAtMost, progress_of}

@@ -16,9 +16,9 @@ use Rattle.st_events.specs.Ran.{RanLists}
 use Rattle.st_events.specs.Shape.{ShapeLists}
 use Rattle.st_events.specs.Sizes.{usual_sizes}
 use Rattle.st_events.specs.World.{first_world}
-use Rattle.st_parse.specs.Small.{SmallLists}
-use Rattle.st_parse.specs.declared.programs.SmallStmt.{SmallStmt}
-use Rattle.st_parse.specs.declared.programs.SmallStmt.TheVariants.{Make, Put, Check}
+use Rattle.st_small_source.specs.Small.{SmallLists}
+use Rattle.st_small_source.specs.declared.programs.SmallStmt.{SmallStmt}
+use Rattle.st_small_source.specs.declared.programs.SmallStmt.TheVariants.{Make, Put, Check}
 use Rattle.st_small.specs.Program.{IsWellFormed, shape_of}
 use Rattle.st_small.specs.Code.{Follows}
 use Rattle.st_small.specs.Right.{AreRetiredAtOnce, IsRightRun, IsRightVerdict, IsPlain, IsTruth}

@@ -3,10 +3,10 @@ use Rattle.std.proofs.Common.{ℕ, List, [], ◌∷◌, map, arith}
 use Rattle.std.specs.List.{AllByRecursion}
 use Rattle.std.proofs.lemmas.List.Elements.{All-from_recursion}
 use Rattle.st_events.specs.Kind.{IsDeclaredKind}
-use Rattle.st_parse.proofs.SoundLemmas.{source_is_sound}
-use Rattle.st_parse.specs.Grammar.{Field, FieldKind, int_kind, class_kind}
-use Rattle.st_parse.specs.Small.{SmallLists}
-use Rattle.st_parse.specs.Source.{IsSmallSource, kind_of}
+use Rattle.st_small_source.proofs.SoundLemmas.{source_is_sound}
+use Rattle.st_small_source.specs.Grammar.{Field, FieldKind, int_kind, class_kind}
+use Rattle.st_small_source.specs.Small.{SmallLists}
+use Rattle.st_small_source.specs.Source.{IsSmallSource, kind_of}
 use Rattle.st_small.specs.Program.{IsWellFormed}
 
 -- the one class has the number 1

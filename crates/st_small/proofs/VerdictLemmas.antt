@@ -8,9 +8,9 @@ use Rattle.st_events.specs.declared.verdicts.Verdict.{Verdict}
 use Rattle.st_events.specs.declared.verdicts.Verdict.TheVariants.{Plain as Value}
 use Rattle.st_events.specs.Shape.{ShapeLists}
 use Rattle.st_events.specs.World.{World, Launched, world_from}
-use Rattle.st_parse.specs.declared.programs.SmallStmt.{SmallStmt}
-use Rattle.st_parse.specs.declared.programs.SmallStmt.TheVariants.{Make, Put, Check}
-use Rattle.st_parse.specs.Small.{SmallLists}
+use Rattle.st_small_source.specs.declared.programs.SmallStmt.{SmallStmt}
+use Rattle.st_small_source.specs.declared.programs.SmallStmt.TheVariants.{Make, Put, Check}
+use Rattle.st_small_source.specs.Small.{SmallLists}
 use Rattle.st_small.specs.Program.{shape_of, plain_of, comparison_holds, value_on}
 use Rattle.st_small.specs.Code.{one_argument}
 use Rattle.st_small.specs.Right.{IsValueAtLaunch, IsPlain, IsTruth}

@@ -6,10 +6,10 @@ use Rattle.st_events.specs.declared.events.Args.{Args}
 use Rattle.st_events.specs.declared.limits.Sizes.{Sizes}
 use Rattle.st_events.specs.declared.verdicts.End.{End}
 use Rattle.st_events.specs.declared.verdicts.End.TheVariants.{Finished, EventsSpent}
-use Rattle.st_parse.specs.declared.programs.SmallStmt.{SmallStmt}
-use Rattle.st_parse.specs.declared.programs.SmallStmt.TheVariants.{Make, Put, Check}
-use Rattle.st_parse.specs.Small.{SmallLists}
-use Rattle.st_parse.specs.declared.limits.TheConstants.{NODE_CLASS}
+use Rattle.st_small_source.specs.declared.programs.SmallStmt.{SmallStmt}
+use Rattle.st_small_source.specs.declared.programs.SmallStmt.TheVariants.{Make, Put, Check}
+use Rattle.st_small_source.specs.Small.{SmallLists}
+use Rattle.st_small_source.specs.declared.limits.TheConstants.{NODE_CLASS}
 use Rattle.st_small.specs.declared.limits.TheConstants.{EVENT_COST, LAUNCH_COST}
 use Rattle.st_small.specs.Program.{checks_of}
 

@@ -1,7 +1,7 @@
 -- What a machine stands for, and what one statement makes of it.
 use Rattle.std.specs.Prelude.{◌≡◌, ℕ, ◌*◌, ◌≤◌, ◌++◌, length}
 use Rattle.st_events.specs.Heap.{heap_of}
-use Rattle.st_parse.specs.declared.programs.SmallStmt.{SmallStmt}
+use Rattle.st_small_source.specs.declared.programs.SmallStmt.{SmallStmt}
 use Rattle.st_small.specs.declared.limits.TheConstants.{MOST_EVENTS_OF_STATEMENT}
 use Rattle.st_small.specs.declared.machines.Machine.{Machine}
 use Rattle.st_small.specs.Running.{Progress, events_of, verdicts_of, after}

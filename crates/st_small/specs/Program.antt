@@ -8,11 +8,11 @@ use Rattle.st_events.specs.Kind.{IsDeclaredKind}
 use Rattle.st_events.specs.Shape.{ShapeLists}
 use Rattle.st_events.specs.Heap.{Heap, word_at}
 use Rattle.st_events.specs.Legal.{is_word}
-use Rattle.st_parse.specs.declared.programs.SmallStmt.{SmallStmt}
-use Rattle.st_parse.specs.declared.programs.SmallStmt.TheVariants.{Make, Put, Check}
-use Rattle.st_parse.specs.Small.{SmallLists}
-use Rattle.st_parse.specs.Sound.{IsSound}
-use Rattle.st_parse.specs.declared.limits.TheConstants.{NODE_CLASS}
+use Rattle.st_small_source.specs.declared.programs.SmallStmt.{SmallStmt}
+use Rattle.st_small_source.specs.declared.programs.SmallStmt.TheVariants.{Make, Put, Check}
+use Rattle.st_small_source.specs.Small.{SmallLists}
+use Rattle.st_small_source.specs.Sound.{IsSound}
+use Rattle.st_small_source.specs.declared.limits.TheConstants.{NODE_CLASS}
 use Rattle.st_small.specs.declared.limits.TheConstants.{CLASSES}
 
 -- the expression of a check statement: a field of its one argument is compared with a number

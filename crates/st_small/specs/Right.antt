@@ -12,7 +12,7 @@ use Rattle.st_events.specs.World.{Launched}
 use Rattle.st_events.specs.History.{launch_of, epoch_of, active_checks, own_events, objects_of}
 use Rattle.st_events.specs.Legal.{IsLegal}
 use Rattle.st_events.specs.Ran.{RanLists}
-use Rattle.st_parse.specs.Small.{SmallLists}
+use Rattle.st_small_source.specs.Small.{SmallLists}
 use Rattle.st_small.specs.Program.{shape_of, plain_value}
 use Rattle.st_small.specs.Code.{threads_of, Follows}
 

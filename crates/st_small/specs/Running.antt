@@ -10,10 +10,10 @@ use Rattle.st_events.specs.declared.verdicts.End.TheVariants.{Finished}
 use Rattle.st_events.specs.Shape.{ShapeLists}
 use Rattle.st_events.specs.Heap.{Heap, with_object, with_word, word_at, fresh, first_heap}
 use Rattle.st_events.specs.Ran.{RanLists}
-use Rattle.st_parse.specs.Small.{SmallLists}
-use Rattle.st_parse.specs.declared.programs.SmallStmt.{SmallStmt}
-use Rattle.st_parse.specs.declared.programs.SmallStmt.TheVariants.{Make, Put, Check}
-use Rattle.st_parse.specs.declared.limits.TheConstants.{NODE_CLASS}
+use Rattle.st_small_source.specs.Small.{SmallLists}
+use Rattle.st_small_source.specs.declared.programs.SmallStmt.{SmallStmt}
+use Rattle.st_small_source.specs.declared.programs.SmallStmt.TheVariants.{Make, Put, Check}
+use Rattle.st_small_source.specs.declared.limits.TheConstants.{NODE_CLASS}
 use Rattle.st_small.specs.declared.limits.TheConstants.{ONLY_THREAD, FIRST_OBJECT, LAUNCH_COST}
 use Rattle.st_small.specs.Program.{plain_of, comparison_holds}
 use Rattle.st_small.specs.Code.{one_argument}

@@ -9,7 +9,7 @@ ghost use Rattle.st_small.specs.Running.{object_of_local, CanDo};
 
 use crate::limits::{FIRST_OBJECT, ONLY_THREAD};
 use st_events::{Args, Event, HeapMap, Journal, NoMemory, Plain, Shape, Verdict};
-use st_parse::{MOST_STATEMENTS, NODE_CLASS, SmallStmt};
+use st_small_source::{MOST_STATEMENTS, NODE_CLASS, SmallStmt};
 
 /// The one thread of a small program between two statements.
 #[derive(Debug, Drop)]

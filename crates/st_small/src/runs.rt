@@ -11,7 +11,7 @@ ghost use Rattle.st_small.specs.Machine.{progress_of, HasDoneAtMost};
 use crate::limits::{FIRST_OBJECT, MOST_EVENTS_OF_STATEMENT};
 use crate::machines::Machine;
 use st_events::{End, HeapMap, Journal, Kind, NoMemory, Ran, Shape, Sizes};
-use st_parse::{MOST_STATEMENTS, Small, SmallStmt};
+use st_small_source::{MOST_STATEMENTS, Small, SmallStmt};
 use std::alloc::Global;
 
 /// Runs the program with the usual sizes, to its end. What it leaves is right: one legal history, whole, with the plain

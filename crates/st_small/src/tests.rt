@@ -3,7 +3,7 @@ ghost use Rattle.std.specs.Prelude.{};
 
 use crate::runs::run_small;
 use st_events::{Args, End, Event, Kind, NoMemory, Plain, Ran, Site, Verdict};
-use st_parse::{Small, SmallStmt};
+use st_small_source::{Small, SmallStmt};
 use std::alloc::Global;
 use std::test::Fail;
 

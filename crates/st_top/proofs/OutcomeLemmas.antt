@@ -8,7 +8,7 @@ use Rattle.st_events.specs.declared.verdicts.Verdict.TheVariants.{Plain}
 use Rattle.st_events.specs.Ran.{RanLists}
 use Rattle.st_io.specs.Counts.{RoseBy}
 use Rattle.st_io.specs.Device.{Counted}
-use Rattle.st_parse.specs.Small.{SmallLists}
+use Rattle.st_small_source.specs.Small.{SmallLists}
 use Rattle.st_top.specs.Causes.{HasCause}
 use Rattle.st_top.specs.Refusals.{refused_status}
 use Rattle.st_top.specs.Outcomes.{IsReported, IsRefused, IsStatusOfRun, IsRefusedExactly}

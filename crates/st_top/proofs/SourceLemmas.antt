@@ -1,10 +1,10 @@
 -- Why a text comes to no run.
 use Rattle.std.proofs.Common.{◌≡◌, ℕ, ◌≤◌, List, length, refl, sym, subst, Result, Ok, Err, IfErr, IsErrAnd}
 use Rattle.st_lex.specs.declared.limits.TheConstants.{MOST_SOURCE_BYTES}
-use Rattle.st_parse.specs.Small.{SmallLists}
-use Rattle.st_parse.specs.Source.{IsSmallSource}
-use Rattle.st_parse.specs.declared.refusals.SmallError.{SmallError}
-use Rattle.st_parse.specs.declared.refusals.SmallError.TheVariants as errors
+use Rattle.st_small_source.specs.Small.{SmallLists}
+use Rattle.st_small_source.specs.Source.{IsSmallSource}
+use Rattle.st_small_source.specs.declared.refusals.SmallError.{SmallError}
+use Rattle.st_small_source.specs.declared.refusals.SmallError.TheVariants as errors
 use Rattle.st_top.specs.Causes.{IsBuildRefusal}
 use Rattle.st_top.specs.Refusals.{source_refusal}
 use Rattle.st_top.specs.declared.refusals.Refusal.{Refusal}

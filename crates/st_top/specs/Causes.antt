@@ -3,8 +3,8 @@ use Rattle.std.specs.Prelude.{◌≡◌, ℕ, ◌+◌, ◌<◌, ◌≤◌, List,
 use Rattle.st_io.specs.Counts.{RoseBy}
 use Rattle.st_io.specs.Device.{Counted}
 use Rattle.st_lex.specs.declared.limits.TheConstants.{MOST_SOURCE_BYTES}
-use Rattle.st_parse.specs.Small.{SmallLists}
-use Rattle.st_parse.specs.Source.{IsSmallSource}
+use Rattle.st_small_source.specs.Small.{SmallLists}
+use Rattle.st_small_source.specs.Source.{IsSmallSource}
 use Rattle.st_top.specs.declared.refusals.Refusal.{Refusal}
 use Rattle.st_top.specs.declared.refusals.Refusal.TheVariants.{Words, NoMemory, ReadFault, SourceTooLong, SourceNotBuilt}
 

@@ -2,7 +2,7 @@
 use Rattle.std.specs.Prelude.{◌≡◌, ◌≢◌, ℕ, ◌⊎◌, List, Option, IsSome}
 use Rattle.st_events.specs.Ran.{RanLists}
 use Rattle.st_io.specs.Device.{Counted}
-use Rattle.st_parse.specs.Small.{SmallLists}
+use Rattle.st_small_source.specs.Small.{SmallLists}
 use Rattle.st_top.specs.Causes.{HasCause}
 use Rattle.st_top.specs.Refusals.{line_of, refused_status}
 use Rattle.st_top.specs.Putting.{IsPut, IsLinePut}

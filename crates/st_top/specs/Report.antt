@@ -13,9 +13,9 @@ use Rattle.st_events.specs.declared.verdicts.Verdict.{Verdict}
 use Rattle.st_events.specs.declared.verdicts.Verdict.TheVariants.{Plain, Abandoned}
 use Rattle.st_events.specs.History.{own_events}
 use Rattle.st_events.specs.Ran.{RanLists}
-use Rattle.st_parse.specs.declared.programs.SmallStmt.{SmallStmt}
-use Rattle.st_parse.specs.declared.programs.SmallStmt.TheVariants.{Make, Put, Check}
-use Rattle.st_parse.specs.Small.{SmallLists}
+use Rattle.st_small_source.specs.declared.programs.SmallStmt.{SmallStmt}
+use Rattle.st_small_source.specs.declared.programs.SmallStmt.TheVariants.{Make, Put, Check}
+use Rattle.st_small_source.specs.Small.{SmallLists}
 use Rattle.st_top.specs.Texts.{site_text, verdict_text, end_text}
 use Rattle.st_top.specs.declared.statuses.TheConstants.{STATUS_HOLDS, STATUS_CHECK_FAILS, STATUS_UNFINISHED, STATUS_UNDECIDED}
 

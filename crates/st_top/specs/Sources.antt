@@ -4,8 +4,8 @@ use Rattle.st_events.specs.declared.verdicts.End.TheVariants.{Finished}
 use Rattle.st_events.specs.Ran.{RanLists}
 use Rattle.st_events.specs.Sizes.{usual_sizes}
 use Rattle.st_lex.specs.declared.limits.TheConstants.{MOST_SOURCE_BYTES}
-use Rattle.st_parse.specs.Small.{SmallLists}
-use Rattle.st_parse.specs.Source.{IsSmallSource}
+use Rattle.st_small_source.specs.Small.{SmallLists}
+use Rattle.st_small_source.specs.Source.{IsSmallSource}
 use Rattle.st_small.specs.Right.{IsRightRun, IsTruth}
 use Rattle.st_top.specs.Report.{heads_of, report_lines}
 use Rattle.st_top.specs.Words.{named_file}

@@ -5,7 +5,7 @@ ghost use Rattle.st_top.specs.Refusals.{line_of, refused_status, files_refusal, 
 use crate::statuses::{STATUS_NO_MEMORY, STATUS_READ_FAULT, STATUS_SOURCE, STATUS_WORDS};
 use st_events::NoMemory;
 use st_io::FilesFault;
-use st_parse::SmallError;
+use st_small_source::SmallError;
 
 /// Why a call comes to no run. One line is written then.
 #[derive(Clone, Copy, Debug, PartialEq, Eq)]

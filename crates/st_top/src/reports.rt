@@ -7,8 +7,8 @@ ghost use Rattle.st_top.specs.LineBytes.{line_bytes, lines_text};
 
 use crate::lines::{check_line, count_line, thread_line};
 use st_events::{End, Event, NoMemory, Ran, Site, Verdict};
-use st_parse::{Small, SmallStmt};
 use st_small::ONLY_THREAD;
+use st_small_source::{Small, SmallStmt};
 use std::alloc::Global;
 use std::marker::Model;
 

@@ -9,8 +9,8 @@ use crate::reports::Report;
 use st_events::Ran;
 use st_io::Files;
 use st_lex::MOST_SOURCE_BYTES;
-use st_parse::small;
 use st_small::run_small;
+use st_small_source::small;
 use std::alloc::Global;
 
 /// A run that came to its end, and the report of it.
