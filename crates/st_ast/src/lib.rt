@@ -1,0 +1,16 @@
+//! The trees of a source: programs, declarations, statements and expressions. Every node has the place of its token.
+//! Trees are plain data: contracts see each list as a list, each box as its value and each name as its bytes.
+#![tactic(auto)]
+
+mod declarations;
+mod expressions;
+mod names;
+mod operators;
+mod statements;
+
+pub use declarations::{Class, Field, Param, Pred, Proc, Program, Thread, TypeName};
+pub use expressions::Expr;
+pub use names::Name;
+pub use operators::Op;
+pub use sqlite_items::{Boxed, Items};
+pub use statements::{Stmt, Value};
