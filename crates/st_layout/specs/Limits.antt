@@ -1,3 +1,4 @@
+-- Which plans a table can have.
 use Rattle.std.specs.Prelude.{◌≤◌}
 use Rattle.st_layout.specs.declared.plans.Plan.{Plan}
 use Rattle.st_layout.specs.declared.limits.TheConstants.{MOST_MUTATORS, MOST_LANES, MOST_OBJECTS, MOST_COPIES, MOST_ROWS}

@@ -1,7 +1,8 @@
+-- The words of a table by name: what each is for, and which of them a plan has.
 use Rattle.std.specs.Prelude.{ℕ, ◌+◌, ◌*◌, ◌<◌, ◌≤◌}
 use Rattle.st_layout.specs.declared.plans.Plan.{Plan}
 use Rattle.st_layout.specs.declared.limits.TheConstants.{MOST_FIELDS}
-use Rattle.st_layout.specs.declared.places.TheConstants.{FIXED_CELLS, ROW_WORDS}
+use Rattle.st_layout.specs.declared.words.TheConstants.{FIXED_CELLS, ROW_WORDS}
 
 -- what a word of the table is for
 pub data WordName : Type 0 where
@@ -26,11 +27,11 @@ pub data WordName : Type 0 where
   -- a field of an object
   FieldWord : (object field : ℕ) → WordName
   -- the object's number at 0, and then its old fields
-  CopyWord : (copy place : ℕ) → WordName
+  CopyWord : (copy index : ℕ) → WordName
   -- an entry of the free list
   FreeWord : (index : ℕ) → WordName
   -- what is told of a check
-  RowWord : (check place : ℕ) → WordName
+  RowWord : (check index : ℕ) → WordName
 
 -- how many cells there are: the fixed ones, and those of each mutator's objects
 abbrev pub cells_of : Plan → ℕ
@@ -48,6 +49,6 @@ HasWord plan (ClassWord object) = object < cells_of plan
 HasWord plan (HeaderWord object) = object < cells_of plan
 HasWord plan (ForwardWord object lane) = (object < cells_of plan) × (lane < plan.lanes)
 HasWord plan (FieldWord object field) = (object < cells_of plan) × (field < MOST_FIELDS)
-HasWord plan (CopyWord copy place) = (copy < plan.copies) × (place ≤ MOST_FIELDS)
+HasWord plan (CopyWord copy index) = (copy < plan.copies) × (index ≤ MOST_FIELDS)
 HasWord plan (FreeWord index) = index < plan.copies
-HasWord plan (RowWord check place) = (1 ≤ check) × (check ≤ plan.rows) × (place < ROW_WORDS)
+HasWord plan (RowWord check index) = (1 ≤ check) × (check ≤ plan.rows) × (index < ROW_WORDS)

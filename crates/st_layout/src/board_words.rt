@@ -6,36 +6,36 @@ ghost use Rattle.st_layout.specs.Limits.{IsWithinLimits};
 ghost use Rattle.st_layout.specs.Names.{ClosingWord, ClockWord, EpochWord, AvailableWord, FlagWord, LaneWord, FreeWord, HasWord};
 ghost use Rattle.st_layout.specs.Layout.{word_of};
 
-use crate::places::{AVAILABLE_PLACE, CLOCK_PLACE, CLOSING_PLACE, EPOCH_PLACE, FLAGS_PLACE};
 use crate::plans::Plan;
+use crate::words::{AVAILABLE_WORD, CLOCK_WORD, CLOSING_WORD, EPOCH_WORD, FIRST_FLAG};
 
 impl Plan {
     /// The word that is 0, or one more than the number that closes the gate.
     pub fn closing_word(&self) -> u32
         ensures { result ≡ word_of self.now ClosingWord }
     {
-        CLOSING_PLACE
+        CLOSING_WORD
     }
 
     /// The word of the tickets and the copies that were drawn.
     pub fn clock_word(&self) -> u32
         ensures { result ≡ word_of self.now ClockWord }
     {
-        CLOCK_PLACE
+        CLOCK_WORD
     }
 
     /// The word of the launches so far.
     pub fn epoch_word(&self) -> u32
         ensures { result ≡ word_of self.now EpochWord }
     {
-        EPOCH_PLACE
+        EPOCH_WORD
     }
 
     /// The word of the free list's length.
     pub fn available_word(&self) -> u32
         ensures { result ≡ word_of self.now AvailableWord }
     {
-        AVAILABLE_PLACE
+        AVAILABLE_WORD
     }
 
     /// The flag of number `m`: a mutator's, or main's at `mutators`.
@@ -44,7 +44,7 @@ impl Plan {
         requires within { HasWord self.now (FlagWord m) }
         ensures { result ≡ word_of self.now (FlagWord m) }
     {
-        FLAGS_PLACE + u32::from(m)
+        FIRST_FLAG + u32::from(m)
     }
 
     /// The word of the launch epoch of the lane's active check.

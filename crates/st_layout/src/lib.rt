@@ -6,12 +6,12 @@ mod board_words;
 mod limits;
 mod object_words;
 mod packing;
-mod places;
 mod plans;
 #[cfg(test)]
 mod tests;
+mod words;
 
 pub use limits::{MOST_COPIES, MOST_FIELDS, MOST_LANES, MOST_MUTATORS, MOST_OBJECTS, MOST_ROWS};
 pub use packing::{hi, lo, pack};
-pub use places::{CELL_WORDS, COPY_WORDS, MOST_WORDS, ROW_WORDS};
 pub use plans::Plan;
+pub use words::{CELL_WORDS, COPY_WORDS, MOST_WORDS, ROW_WORDS};

@@ -2,15 +2,15 @@
 #![tactic(auto, using(crate::proofs::Bounds::cells_fit), unfolding(crate::specs::Layout::word_of))]
 
 ghost use Rattle.std.specs.Prelude.{◌≡◌, ◌+◌, ◌*◌, ◌<◌};
-ghost use Rattle.st_layout.specs.declared.places.TheConstants.{CELL_WORDS};
+ghost use Rattle.st_layout.specs.declared.words.TheConstants.{CELL_WORDS};
 ghost use Rattle.st_layout.specs.Limits.{IsWithinLimits};
 ghost use Rattle.st_layout.specs.Names.{ClassWord, HeaderWord, ForwardWord, FieldWord, CopyWord, RowWord, HasWord, cells_of};
 ghost use Rattle.st_layout.specs.Layout.{word_of, first_cell};
 
-use crate::places::{
-    CELL_WORDS, CLASS_PLACE, COPY_WORDS, FIELDS_PLACE, FORWARDS_PLACE, HEADER_PLACE, ROW_WORDS,
-};
 use crate::plans::Plan;
+use crate::words::{
+    CELL_WORDS, CLASS_INDEX, COPY_WORDS, FIELDS_INDEX, FORWARDS_INDEX, HEADER_INDEX, ROW_WORDS,
+};
 
 impl Plan {
     /// The word of the class number of `obj`.
@@ -19,7 +19,7 @@ impl Plan {
         requires within { HasWord self.now (ClassWord obj) }
         ensures { result ≡ word_of self.now (ClassWord obj) }
     {
-        self.cell(obj) + CLASS_PLACE
+        self.cell(obj) + CLASS_INDEX
     }
 
     /// The word of the stamp of `obj` and of who holds it.
@@ -28,7 +28,7 @@ impl Plan {
         requires within { HasWord self.now (HeaderWord obj) }
         ensures { result ≡ word_of self.now (HeaderWord obj) }
     {
-        self.cell(obj) + HEADER_PLACE
+        self.cell(obj) + HEADER_INDEX
     }
 
     /// The word that says which copy of `obj` the lane's check reads.
@@ -37,7 +37,7 @@ impl Plan {
         requires within { HasWord self.now (ForwardWord obj lane) }
         ensures { result ≡ word_of self.now (ForwardWord obj lane) }
     {
-        self.cell(obj) + FORWARDS_PLACE + u32::from(lane)
+        self.cell(obj) + FORWARDS_INDEX + u32::from(lane)
     }
 
     /// The word of a field of `obj`, from field 0.
@@ -46,7 +46,7 @@ impl Plan {
         requires within { HasWord self.now (FieldWord obj field) }
         ensures { result ≡ word_of self.now (FieldWord obj field) }
     {
-        self.cell(obj) + FIELDS_PLACE + u32::from(field)
+        self.cell(obj) + FIELDS_INDEX + u32::from(field)
     }
 
     /// Word `k` of a copy: the object's number at 0, and field `k - 1` above.

@@ -6,7 +6,7 @@ ghost use Rattle.std.specs.Prelude.{◌≡◌, ◌≤◌};
 ghost use Rattle.st_layout.specs.Limits.{IsWithinLimits};
 ghost use Rattle.st_layout.specs.Layout.{first_lane, first_cell, first_copy, first_free, first_row, words_of, HasDistinctWords, HasWordsBelow};
 
-use crate::places::{CELL_WORDS, COPY_WORDS, FIXED_CELLS, FLAGS_PLACE, MOST_WORDS, ROW_WORDS};
+use crate::words::{CELL_WORDS, COPY_WORDS, FIRST_FLAG, FIXED_CELLS, MOST_WORDS, ROW_WORDS};
 
 /// How much of each part the table has. A call that gives a word takes a plan within the limits, and numbers that are
 /// within the plan: `obj` up to `1 + mutators * objects`, where cell 0 is unused and cell 1 is the shared object's.
@@ -41,7 +41,7 @@ impl Plan {
         requires { IsWithinLimits self.now }
         ensures { result ≡ first_lane self.now }
     {
-        FLAGS_PLACE + (u32::from(self.mutators) + 1)
+        FIRST_FLAG + (u32::from(self.mutators) + 1)
     }
 
     /// Where the cells begin.

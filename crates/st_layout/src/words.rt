@@ -3,27 +3,27 @@
 use crate::limits::{MOST_COPIES, MOST_FIELDS, MOST_LANES, MOST_MUTATORS, MOST_OBJECTS, MOST_ROWS};
 
 /// The word that says who closes the gate.
-pub const CLOSING_PLACE: u32 = 0;
+pub const CLOSING_WORD: u32 = 0;
 /// The clock's word.
-pub const CLOCK_PLACE: u32 = 1;
+pub const CLOCK_WORD: u32 = 1;
 /// The word of the launches so far.
-pub const EPOCH_PLACE: u32 = 2;
+pub const EPOCH_WORD: u32 = 2;
 /// The word of the free list's length.
-pub const AVAILABLE_PLACE: u32 = 3;
+pub const AVAILABLE_WORD: u32 = 3;
 /// The first flag, after the single words.
-pub const FLAGS_PLACE: u32 = 4;
+pub const FIRST_FLAG: u32 = 4;
 
 /// The cells that each plan has: cell 0, which is unused, and the shared object's.
 pub const FIXED_CELLS: u32 = 2;
 
 /// Within a cell, the class number.
-pub const CLASS_PLACE: u32 = 0;
+pub const CLASS_INDEX: u32 = 0;
 /// Within a cell, the header.
-pub const HEADER_PLACE: u32 = 1;
+pub const HEADER_INDEX: u32 = 1;
 /// Within a cell, the forwarding word of lane 0.
-pub const FORWARDS_PLACE: u32 = 2;
+pub const FORWARDS_INDEX: u32 = 2;
 /// Within a cell, field 0.
-pub const FIELDS_PLACE: u32 = FORWARDS_PLACE + MOST_LANES as u32;
+pub const FIELDS_INDEX: u32 = FORWARDS_INDEX + MOST_LANES as u32;
 
 /// The words of a cell. The last of them are unused.
 pub const CELL_WORDS: u32 = 24;
@@ -32,10 +32,10 @@ pub const COPY_WORDS: u32 = 1 + MOST_FIELDS as u32;
 /// The words of a check's row.
 pub const ROW_WORDS: u32 = 3;
 
-const _: () = prove!(FIELDS_PLACE + MOST_FIELDS as u32 <= CELL_WORDS);
+const _: () = prove!(FIELDS_INDEX + MOST_FIELDS as u32 <= CELL_WORDS);
 
 /// The words of the largest table.
-pub const MOST_WORDS: u32 = FLAGS_PLACE
+pub const MOST_WORDS: u32 = FIRST_FLAG
     + (MOST_MUTATORS as u32 + 1)
     + MOST_LANES as u32
     + (FIXED_CELLS + MOST_MUTATORS as u32 * MOST_OBJECTS) * CELL_WORDS
