@@ -1,0 +1,4 @@
+pub mod Kinds
+pub mod Terms
+pub mod Views
+pub mod WellFormed

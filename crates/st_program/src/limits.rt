@@ -1,0 +1,11 @@
+//! The most that a program may have of each. Fields, check statements and arguments have their limits with the shape, and
+//! threads with the sizes, in st_events.
+
+/// The most predicates of a program.
+pub const MOST_PREDS: usize = 64;
+/// The most procedures of a program.
+pub const MOST_PROCS: usize = 64;
+/// The most parameters of a predicate or a procedure.
+pub const MOST_PARAMS: usize = 8;
+/// The most locals of a body, its parameters included.
+pub const MOST_LOCALS: usize = 32;
