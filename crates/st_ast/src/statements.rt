@@ -34,6 +34,8 @@ pub enum Stmt {
     /// `var name: kind = value;`.
     Var {
         name: Name,
+        /// The name's token.
+        name_site: Site,
         kind: TypeName,
         value: Value,
         /// The word `var`.
