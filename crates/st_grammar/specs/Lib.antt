@@ -1,0 +1,4 @@
+pub mod Charts
+pub mod Checks
+pub mod Answers
+pub mod Reads
