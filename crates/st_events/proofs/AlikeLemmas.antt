@@ -29,7 +29,7 @@ reason-dressed shape sizes v w (New m obj class) = refl
 reason-dressed shape sizes v w (Load m obj field value) = refl
 reason-dressed shape sizes v w (Store m obj field value) = refl
 reason-dressed shape sizes v w (Cas m obj field expect value done) = refl
-reason-dressed shape sizes v w (Launch m number site args) = refl
+reason-dressed shape sizes v w (Launch m site number args) = refl
 reason-dressed shape sizes v w (Retire m number) = refl
 
 -- they have the same reasons
@@ -43,7 +43,7 @@ next-alike shape sizes v w (Load m obj field value) a = a
 next-alike shape sizes v w (Store m obj field value) a = record { heap = ap (λ (h : Heap). with_word h obj field value) a.heap; made = a.made; epoch = a.epoch; active = a.active }
 next-alike shape sizes v w (Cas m obj field expect value true) a = record { heap = ap (λ (h : Heap). with_word h obj field value) a.heap; made = a.made; epoch = a.epoch; active = a.active }
 next-alike shape sizes v w (Cas m obj field expect value false) a = a
-next-alike shape sizes v w (Launch m number site args) a = record { heap = a.heap; made = a.made; epoch = ap (λ (n : ℕ). n + 1) a.epoch; active = ap (λ (ns : List ℕ). ns ++ number ∷ []) a.active }
+next-alike shape sizes v w (Launch m site number args) a = record { heap = a.heap; made = a.made; epoch = ap (λ (n : ℕ). n + 1) a.epoch; active = ap (λ (ns : List ℕ). ns ++ number ∷ []) a.active }
 next-alike shape sizes v w (Retire m number) a = record { heap = a.heap; made = a.made; epoch = a.epoch; active = ap (without number) a.active }
 
 pub LooksAlike-trans : (u v w : World) → LooksAlike u v → LooksAlike v w → LooksAlike u w

@@ -22,7 +22,7 @@ abbrev sizes : ℕ → Sizes
 sizes copies = record { mutators = 1; lanes = 2; objects = 4; copies = copies; events = 100; calls = 10 }
 
 abbrev launch : ℕ → Event
-launch number = Launch 0 number 0 (record { count = 0; words = 0 ∷ 0 ∷ 0 ∷ 0 ∷ [] })
+launch number = Launch 0 0 number (record { count = 0; words = 0 ∷ 0 ∷ 0 ∷ 0 ∷ [] })
 
 -- two checks share one copy, and it stays until both are retired
 shared_copy : kept_rows shape (sizes 4) (launch 1 ∷ launch 2 ∷ Store 0 1 0 5 ∷ []) ≡ record { obj = 1; checks = 1 ∷ 2 ∷ [] } ∷ []

@@ -47,7 +47,7 @@ extends-next shape sizes w (Load m obj field value) s l = Extends-refl w.heap
 extends-next shape sizes w (Store m obj field value) s l = extends-changed w.heap obj field value
 extends-next shape sizes w (Cas m obj field expect value true) s l = extends-changed w.heap obj field value
 extends-next shape sizes w (Cas m obj field expect value false) s l = Extends-refl w.heap
-extends-next shape sizes w (Launch m number site args) s l = Extends-refl w.heap
+extends-next shape sizes w (Launch m site number args) s l = Extends-refl w.heap
 extends-next shape sizes w (Retire m number) s l = Extends-refl w.heap
 
 extends-from : (shape : ShapeLists) (sizes : Sizes) (w : World) (es : List Event) → IsSound shape sizes w → IsLegalFrom shape sizes w es → Extends w.heap (world_from shape sizes w es).heap
@@ -66,7 +66,7 @@ launch-next shape sizes w (Load m obj field value) n x s l h = h
 launch-next shape sizes w (Store m obj field value) n x s l h = h
 launch-next shape sizes w (Cas m obj field expect value true) n x s l h = h
 launch-next shape sizes w (Cas m obj field expect value false) n x s l h = h
-launch-next shape sizes w (Launch m number site args) n x s l h = at-other number (Some (record { past = w.heap; thread = m; site = site; args = args })) w.launched n (omega (arith, (s.launches.only n x h).1, (legal_launch shape sizes w m number site args l).next_number)) ∙ h
+launch-next shape sizes w (Launch m site number args) n x s l h = at-other number (Some (record { past = w.heap; thread = m; site = site; args = args })) w.launched n (omega (arith, (s.launches.only n x h).1, (legal_launch shape sizes w m number site args l).next_number)) ∙ h
 launch-next shape sizes w (Retire m number) n x s l h = h
 
 launch-from : (shape : ShapeLists) (sizes : Sizes) (w : World) (es : List Event) (n : ℕ) (x : Launched) → IsSound shape sizes w → IsLegalFrom shape sizes w es → w.launched n ≡ Some x → (world_from shape sizes w es).launched n ≡ Some x
@@ -92,7 +92,7 @@ lost-next shape sizes w (Load m obj field value) o n h = h
 lost-next shape sizes w (Store m obj field value) o n h = lost-changed sizes w obj o n h
 lost-next shape sizes w (Cas m obj field expect value true) o n h = lost-changed sizes w obj o n h
 lost-next shape sizes w (Cas m obj field expect value false) o n h = h
-lost-next shape sizes w (Launch m number site args) o n h = h
+lost-next shape sizes w (Launch m site number args) o n h = h
 lost-next shape sizes w (Retire m number) o n h = h
 
 pub lost-from : (shape : ShapeLists) (sizes : Sizes) (w : World) (es : List Event) (o n : ℕ) → is_lost w.lost o n ≡ true → is_lost (world_from shape sizes w es).lost o n ≡ true

@@ -20,17 +20,17 @@ use Rattle.st_events.proofs.ExtendsLemmas.{launch_of-stays}
 record IsLaunchFrom (shape : ShapeLists) (sizes : Sizes) (w : World) (es : List Event) (n : ℕ) (launch : Launched) : Type 0 where
   before : List Event
   rest : List Event
-  split : es ≡ before ++ Launch launch.thread n launch.site launch.args ∷ rest
+  split : es ≡ before ++ Launch launch.thread launch.site n launch.args ∷ rest
   past : launch.past ≡ (world_from shape sizes w before).heap
 
 -- an event leaves what was known of a check, or is its Launch
-launched-next : (shape : ShapeLists) (sizes : Sizes) (w : World) (e : Event) (n : ℕ) (x : Launched) → (next shape sizes w e).launched n ≡ Some x → (w.launched n ≡ Some x) ⊎ ((e ≡ Launch x.thread n x.site x.args) × (x.past ≡ w.heap))
+launched-next : (shape : ShapeLists) (sizes : Sizes) (w : World) (e : Event) (n : ℕ) (x : Launched) → (next shape sizes w e).launched n ≡ Some x → (w.launched n ≡ Some x) ⊎ ((e ≡ Launch x.thread x.site n x.args) × (x.past ≡ w.heap))
 launched-next shape sizes w (New m obj class) n x h = inl h
 launched-next shape sizes w (Load m obj field value) n x h = inl h
 launched-next shape sizes w (Store m obj field value) n x h = inl h
 launched-next shape sizes w (Cas m obj field expect value true) n x h = inl h
 launched-next shape sizes w (Cas m obj field expect value false) n x h = inl h
-launched-next shape sizes w (Launch m number site args) n x h = elim (eqb_tells n number) [
+launched-next shape sizes w (Launch m site number args) n x h = elim (eqb_tells n number) [
   | inl same ↦ inr (here same.1 (some (sym (rw same.0 refl) ∙ h)))
   | inr other ↦ inl (sym (at-other number (Some launch) w.launched n other.1) ∙ h)
 ]
@@ -41,8 +41,8 @@ launched-next shape sizes w (Launch m number site args) n x h = elim (eqb_tells 
     some : Some launch ≡ Some x → launch ≡ x
     some e = cc
 
-    here : n ≡ number → launch ≡ x → (Launch m number site args ≡ Launch x.thread n x.site x.args) × (x.past ≡ w.heap)
-    here same e = (ap (λ (k : ℕ). Launch m k site args) (sym same) ∙ ap (λ (y : Launched). Launch y.thread n y.site y.args) e, sym (ap (λ (y : Launched). y.past) e))
+    here : n ≡ number → launch ≡ x → (Launch m site number args ≡ Launch x.thread x.site n x.args) × (x.past ≡ w.heap)
+    here same e = (ap (λ (k : ℕ). Launch m site k args) (sym same) ∙ ap (λ (y : Launched). Launch y.thread y.site n y.args) e, sym (ap (λ (y : Launched). y.past) e))
 launched-next shape sizes w (Retire m number) n x h = inl h
 
 launched-from : (shape : ShapeLists) (sizes : Sizes) (w : World) (es : List Event) (n : ℕ) (x : Launched) → (world_from shape sizes w es).launched n ≡ Some x → (w.launched n ≡ Some x) ⊎ IsLaunchFrom shape sizes w es n x
@@ -64,21 +64,21 @@ launch_of-found shape sizes es n x h = elim (launched-from shape sizes (first_wo
 
 -- ---- what a Launch says is known from then on
 
-pub launch_of-known : (shape : ShapeLists) (sizes : Sizes) → IsWithinLimits shape → (es fs : List Event) (m n site : ℕ) (args : Args) → IsLegal shape sizes (es ++ Launch m n site args ∷ fs) → launch_of shape sizes (es ++ Launch m n site args ∷ fs) n ≡ Some (record { past = heap_after shape sizes es; thread = m; site = site; args = args })
+pub launch_of-known : (shape : ShapeLists) (sizes : Sizes) → IsWithinLimits shape → (es fs : List Event) (m n site : ℕ) (args : Args) → IsLegal shape sizes (es ++ Launch m site n args ∷ fs) → launch_of shape sizes (es ++ Launch m site n args ∷ fs) n ≡ Some (record { past = heap_after shape sizes es; thread = m; site = site; args = args })
 launch_of-known shape sizes limits es fs m n site args l =
-    subst (λ (ds : List Event). launch_of shape sizes ds n ≡ Some launch) joined (launch_of-stays shape sizes limits (es ++ Launch m n site args ∷ []) fs n launch legal at_once)
+    subst (λ (ds : List Event). launch_of shape sizes ds n ≡ Some launch) joined (launch_of-stays shape sizes limits (es ++ Launch m site n args ∷ []) fs n launch legal at_once)
   where
     launch : Launched
     launch = record { past = heap_after shape sizes es; thread = m; site = site; args = args }
 
-    joined : (es ++ Launch m n site args ∷ []) ++ fs ≡ es ++ Launch m n site args ∷ fs
-    joined = append_assoc es (Launch m n site args ∷ []) fs
+    joined : (es ++ Launch m site n args ∷ []) ++ fs ≡ es ++ Launch m site n args ∷ fs
+    joined = append_assoc es (Launch m site n args ∷ []) fs
 
-    legal : IsLegal shape sizes ((es ++ Launch m n site args ∷ []) ++ fs)
+    legal : IsLegal shape sizes ((es ++ Launch m site n args ∷ []) ++ fs)
     legal = subst (λ (ds : List Event). IsLegal shape sizes ds) (sym joined) l
 
-    at_once : (world_after shape sizes (es ++ Launch m n site args ∷ [])).launched n ≡ Some launch
-    at_once = ap (λ (w : World). w.launched n) (world_after-snoc shape sizes es (Launch m n site args)) ∙ at-same n (Some launch) (world_after shape sizes es).launched
+    at_once : (world_after shape sizes (es ++ Launch m site n args ∷ [])).launched n ≡ Some launch
+    at_once = ap (λ (w : World). w.launched n) (world_after-snoc shape sizes es (Launch m site n args)) ∙ at-same n (Some launch) (world_after shape sizes es).launched
 
 -- ---- one place
 
@@ -89,11 +89,11 @@ epoch-next shape sizes w (Load m obj field value) = omega arith
 epoch-next shape sizes w (Store m obj field value) = omega arith
 epoch-next shape sizes w (Cas m obj field expect value true) = omega arith
 epoch-next shape sizes w (Cas m obj field expect value false) = omega arith
-epoch-next shape sizes w (Launch m number site args) = omega arith
+epoch-next shape sizes w (Launch m site number args) = omega arith
 epoch-next shape sizes w (Retire m number) = omega arith
 
 -- no later event launches a number that was launched before
-launched-once : (shape : ShapeLists) (sizes : Sizes) (w : World) (es fs : List Event) (m n site : ℕ) (args : Args) → n ≤ w.epoch → IsLegalFrom shape sizes w (es ++ Launch m n site args ∷ fs) → ⊥
+launched-once : (shape : ShapeLists) (sizes : Sizes) (w : World) (es fs : List Event) (m n site : ℕ) (args : Args) → n ≤ w.epoch → IsLegalFrom shape sizes w (es ++ Launch m site n args ∷ fs) → ⊥
 launched-once shape sizes w [] fs m n site args h l = omega (arith, h, (legal_launch shape sizes w m n site args l.0).next_number)
 launched-once shape sizes w (e ∷ es) fs m n site args h l = launched-once shape sizes (next shape sizes w e) es fs m n site args (omega (arith, h, epoch-next shape sizes w e)) l.1
 
@@ -105,13 +105,13 @@ tail_of : {e d : Event} {es ds : List Event} → e ∷ es ≡ d ∷ ds → es �
 tail_of h = cc
 
 -- a Launch that stands first stands nowhere else
-first_alone : (shape : ShapeLists) (sizes : Sizes) (w : World) (es fs gs : List Event) (n m site m' site' : ℕ) (args args' : Args) → IsLegalFrom shape sizes w (Launch m n site args ∷ gs) → gs ≡ es ++ Launch m' n site' args' ∷ fs → ⊥
+first_alone : (shape : ShapeLists) (sizes : Sizes) (w : World) (es fs gs : List Event) (n m site m' site' : ℕ) (args args' : Args) → IsLegalFrom shape sizes w (Launch m site n args ∷ gs) → gs ≡ es ++ Launch m' site' n args' ∷ fs → ⊥
 first_alone shape sizes w es fs gs n m site m' site' args args' l e =
     let number : n ≡ w.epoch + 1 = (legal_launch shape sizes w m n site args l.0).next_number in
-    let rest = subst (λ (ds : List Event). IsLegalFrom shape sizes (next shape sizes w (Launch m n site args)) ds) e l.1 in
-    launched-once shape sizes (next shape sizes w (Launch m n site args)) es fs m' n site' args' (omega (arith, number)) rest
+    let rest = subst (λ (ds : List Event). IsLegalFrom shape sizes (next shape sizes w (Launch m site n args)) ds) e l.1 in
+    launched-once shape sizes (next shape sizes w (Launch m site n args)) es fs m' n site' args' (omega (arith, number)) rest
 
-one_place-from : (shape : ShapeLists) (sizes : Sizes) (w : World) (es fs gs hs : List Event) (n m site m' site' : ℕ) (args args' : Args) → IsLegalFrom shape sizes w (es ++ Launch m n site args ∷ fs) → es ++ Launch m n site args ∷ fs ≡ gs ++ Launch m' n site' args' ∷ hs → es ≡ gs
+one_place-from : (shape : ShapeLists) (sizes : Sizes) (w : World) (es fs gs hs : List Event) (n m site m' site' : ℕ) (args args' : Args) → IsLegalFrom shape sizes w (es ++ Launch m site n args ∷ fs) → es ++ Launch m site n args ∷ fs ≡ gs ++ Launch m' site' n args' ∷ hs → es ≡ gs
 one_place-from shape sizes w [] fs [] hs n m site m' site' args args' l e = refl
 one_place-from shape sizes w [] fs (g ∷ gs) hs n m site m' site' args args' l e = absurd (first_alone shape sizes w gs hs fs n m site m' site' args args' l (tail_of e))
 one_place-from shape sizes w (d ∷ es) fs [] hs n m site m' site' args args' l e =
@@ -122,6 +122,6 @@ one_place-from shape sizes w (d ∷ es) fs (g ∷ gs) hs n m site m' site' args 
     ap (λ (c : Event). c ∷ es) (head_of e) ∙ ap (λ (cs : List Event). g ∷ cs) same
 
 -- each number is launched at one place
-pub launches-one_place : (shape : ShapeLists) (sizes : Sizes) (es fs gs hs : List Event) (n m site m' site' : ℕ) (args args' : Args) → IsLegal shape sizes (es ++ Launch m n site args ∷ fs) → es ++ Launch m n site args ∷ fs ≡ gs ++ Launch m' n site' args' ∷ hs → es ≡ gs
+pub launches-one_place : (shape : ShapeLists) (sizes : Sizes) (es fs gs hs : List Event) (n m site m' site' : ℕ) (args args' : Args) → IsLegal shape sizes (es ++ Launch m site n args ∷ fs) → es ++ Launch m site n args ∷ fs ≡ gs ++ Launch m' site' n args' ∷ hs → es ≡ gs
 unfolding IsLegal
 launches-one_place shape sizes es fs gs hs n m site m' site' args args' l e = one_place-from shape sizes (first_world shape) es fs gs hs n m site m' site' args args' l e

@@ -140,9 +140,9 @@ legal_cas shape sizes w m obj field expect value done l =
     let h = all_hold (rules_of shape sizes w (Cas m obj field expect value done)) l in
     record { thread = is_below m sizes.mutators h.0; object = h.1.0; cell = h.1.1.0; kind = (both (fits_cell shape w.heap obj field expect) (fits_cell shape w.heap obj field value) h.1.1.1.0).1 }
 
-pub legal_launch : (shape : ShapeLists) (sizes : Sizes) (w : World) (m number site : ℕ) (args : Args) → IsLegalNext shape sizes w (Launch m number site args) → LegalLaunch shape sizes w m number site args
+pub legal_launch : (shape : ShapeLists) (sizes : Sizes) (w : World) (m number site : ℕ) (args : Args) → IsLegalNext shape sizes w (Launch m site number args) → LegalLaunch shape sizes w m number site args
 legal_launch shape sizes w m number site args l =
-    let h = all_hold (rules_of shape sizes w (Launch m number site args)) l in
+    let h = all_hold (rules_of shape sizes w (Launch m site number args)) l in
     record {
       thread = is_below m sizes.mutators h.0;
       next_number = is_same number (w.epoch + 1) h.1.0;

@@ -5,6 +5,7 @@ mod CellLemmas
 mod Examples
 pub mod ExtendsLemmas
 pub mod HeapLemmas
+pub mod JudgeLemmas
 pub mod KeptLemmas
 pub mod LaunchLemmas
 pub mod LegalLemmas

@@ -125,7 +125,7 @@ none_lost-from shape sizes w objs (Cas m obj field expect value true ∷ es) s a
     let after = changed sizes w obj field value in
     none_lost-from shape sizes after objs es (sound-next shape sizes w (Cas m obj field expect value true) s l.0) (spread-changed shape sizes w objs obj field value (legal_cas shape sizes w m obj field expect value true l.0).object s a) l.1 large (none_lost-changed shape sizes w objs obj s a (omega (arith, large)) none)
 none_lost-from shape sizes w objs (Cas m obj field expect value false ∷ es) s a l large none = none_lost-from shape sizes w objs es s a l.1 large none
-none_lost-from shape sizes w objs (Launch m number site args ∷ es) s a l large none = none_lost-from shape sizes (next shape sizes w (Launch m number site args)) objs es (sound-next shape sizes w (Launch m number site args) s l.0) (record { objects = a.objects; checks = a.checks; few = a.few }) l.1 large none
+none_lost-from shape sizes w objs (Launch m site number args ∷ es) s a l large none = none_lost-from shape sizes (next shape sizes w (Launch m site number args)) objs es (sound-next shape sizes w (Launch m site number args) s l.0) (record { objects = a.objects; checks = a.checks; few = a.few }) l.1 large none
 none_lost-from shape sizes w objs (Retire m number ∷ es) s a l large none = none_lost-from shape sizes (next shape sizes w (Retire m number)) objs es (sound-next shape sizes w (Retire m number) s l.0) (spread-retire shape sizes w objs m number a) l.1 large none
 
 -- a pool of at least `lanes * (objects + 1)` copies never loses a version

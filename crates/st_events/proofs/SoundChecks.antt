@@ -17,7 +17,7 @@ use Rattle.st_events.proofs.AmongLemmas.{is_among-snoc, is_among-without, length
 
 -- ---- launches
 
-pub launches-launch : (shape : ShapeLists) (sizes : Sizes) (w : World) (m number site : ℕ) (args : Args) → AreLaunches w → LegalLaunch shape sizes w m number site args → AreLaunches (next shape sizes w (Launch m number site args))
+pub launches-launch : (shape : ShapeLists) (sizes : Sizes) (w : World) (m number site : ℕ) (args : Args) → AreLaunches w → LegalLaunch shape sizes w m number site args → AreLaunches (next shape sizes w (Launch m site number args))
 launches-launch shape sizes w m number site args a l =
     let here : Launched = record { past = w.heap; thread = m; site = site; args = args } in
     record {
@@ -33,7 +33,7 @@ launches-launch shape sizes w m number site args a l =
 
 -- ---- active checks
 
-pub active-launch : (shape : ShapeLists) (sizes : Sizes) (w : World) (m number site : ℕ) (args : Args) → AreActive sizes w → LegalLaunch shape sizes w m number site args → AreActive sizes (next shape sizes w (Launch m number site args))
+pub active-launch : (shape : ShapeLists) (sizes : Sizes) (w : World) (m number site : ℕ) (args : Args) → AreActive sizes w → LegalLaunch shape sizes w m number site args → AreActive sizes (next shape sizes w (Launch m site number args))
 active-launch shape sizes w m number site args a l = record {
   lanes = omega (arith, l.lane, length-append w.active (number ∷ []));
   rising = IsRising-snoc w.active number a.rising (λ n h. omega (arith, (a.launched n h).1, l.next_number));
@@ -92,7 +92,7 @@ pasts-changed sizes w obj field value a p = record {
   ];
 }
 
-pub pasts-launch : (shape : ShapeLists) (sizes : Sizes) (w : World) (m number site : ℕ) (args : Args) → ArePasts w → ArePasts (next shape sizes w (Launch m number site args))
+pub pasts-launch : (shape : ShapeLists) (sizes : Sizes) (w : World) (m number site : ℕ) (args : Args) → ArePasts w → ArePasts (next shape sizes w (Launch m site number args))
 pasts-launch shape sizes w m number site args p =
     let here : Launched = record { past = w.heap; thread = m; site = site; args = args } in
     record {

@@ -123,7 +123,7 @@ copies-new shape sizes w m obj class absent a s p r = record {
 
 -- ---- a launch
 
-pub copies-launch : (shape : ShapeLists) (sizes : Sizes) (w : World) (m number site : ℕ) (args : Args) → LegalLaunch shape sizes w m number site args → AreLaunches w → AreStamps w → AreCopies sizes w → AreCopies sizes (next shape sizes w (Launch m number site args))
+pub copies-launch : (shape : ShapeLists) (sizes : Sizes) (w : World) (m number site : ℕ) (args : Args) → LegalLaunch shape sizes w m number site args → AreLaunches w → AreStamps w → AreCopies sizes w → AreCopies sizes (next shape sizes w (Launch m site number args))
 copies-launch shape sizes w m number site args l a s r = record {
   copies = r.copies;
   kept_active = λ o n h. is_among-front w.active (number ∷ []) n (r.kept_active o n h);
@@ -142,7 +142,7 @@ copies-launch shape sizes w m number site args l a s r = record {
     older n ne (inl h) = h
     older n ne (inr e) = absurd (ne e)
 
-    noted : (o n : ℕ) → IsNoted w o n → IsNoted (next shape sizes w (Launch m number site args)) o n
+    noted : (o n : ℕ) → IsNoted w o n → IsNoted (next shape sizes w (Launch m site number args)) o n
     noted o n i =
         let other : n ≢ number = omega (arith, (a.only n i.launch i.launched).1, l.next_number) in
         record { launch = i.launch; launched = at-other number (Some (record { past = w.heap; thread = m; site = site; args = args })) w.launched n other ∙ i.launched; stood = i.stood; changed = i.changed }

@@ -60,7 +60,7 @@ sound-next shape sizes w (Load m obj field value) s l = s
 sound-next shape sizes w (Store m obj field value) s l = sound-changed shape sizes w m obj field value (legal_store shape sizes w m obj field value l) s
 sound-next shape sizes w (Cas m obj field expect value true) s l = sound-changed shape sizes w m obj field value (legal_cas shape sizes w m obj field expect value true l) s
 sound-next shape sizes w (Cas m obj field expect value false) s l = s
-sound-next shape sizes w (Launch m number site args) s l =
+sound-next shape sizes w (Launch m site number args) s l =
     let legal = legal_launch shape sizes w m number site args l in
     record {
       typed = s.typed;

@@ -1,4 +1,5 @@
 use Rattle.std.specs.Prelude.{◌≡◌, ℕ, ◌+◌, ◌==◌, Bool, true, false, List, ◌∷◌, ◌++◌, length, filter, Option}
+use Rattle.std.specs.List.{list_any}
 use Rattle.st_events.specs.declared.events.Event.{Event}
 use Rattle.st_events.specs.declared.events.Event.TheVariants.{New, Load, Store, Cas, Launch, Retire}
 use Rattle.st_events.specs.declared.limits.Sizes.{Sizes}
@@ -43,7 +44,7 @@ launch_of shape sizes es number = (world_after shape sizes es).launched number
 pub record IsLaunchIn (shape : ShapeLists) (sizes : Sizes) (es : List Event) (number : ℕ) (launch : Launched) : Type 0 where
   pub before : List Event
   pub rest : List Event
-  pub split : es ≡ before ++ Launch launch.thread number launch.site launch.args ∷ rest
+  pub split : es ≡ before ++ Launch launch.thread launch.site number launch.args ∷ rest
   pub past : launch.past ≡ heap_after shape sizes before
 
 -- whether the event is an own one of the thread; a Retire is nobody's own
@@ -52,8 +53,21 @@ is_own thread (New m obj class) = m == thread
 is_own thread (Load m obj field value) = m == thread
 is_own thread (Store m obj field value) = m == thread
 is_own thread (Cas m obj field expect value done) = m == thread
-is_own thread (Launch m number site args) = m == thread
+is_own thread (Launch m site number args) = m == thread
 is_own thread (Retire m number) = false
+
+-- whether the event launches the check of this number
+abbrev pub is_launch_of : ℕ → Event → Bool
+is_launch_of n (New m obj class) = false
+is_launch_of n (Load m obj field value) = false
+is_launch_of n (Store m obj field value) = false
+is_launch_of n (Cas m obj field expect value done) = false
+is_launch_of n (Launch m site number args) = number == n
+is_launch_of n (Retire m number) = false
+
+-- whether the events have a Launch of the check
+abbrev pub has_launch : ℕ → List Event → Bool
+has_launch n es = list_any (is_launch_of n) es
 
 -- the thread's own events, in order
 abbrev pub own_events : ℕ → List Event → List Event
@@ -65,7 +79,7 @@ is_new (New m obj class) = true
 is_new (Load m obj field value) = false
 is_new (Store m obj field value) = false
 is_new (Cas m obj field expect value done) = false
-is_new (Launch m number site args) = false
+is_new (Launch m site number args) = false
 is_new (Retire m number) = false
 
 -- how many objects a journal has: the shared one, and one for each New

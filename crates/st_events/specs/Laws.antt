@@ -68,12 +68,12 @@ pub record TellOfLaunches : Type 0 where
   pub known :
       (shape : ShapeLists) (sizes : Sizes) → IsWithinLimits shape
       → (before rest : List Event) (thread n site : ℕ) (args : Args)
-      → IsLegal shape sizes (before ++ Launch thread n site args ∷ rest)
-      → launch_of shape sizes (before ++ Launch thread n site args ∷ rest) n
+      → IsLegal shape sizes (before ++ Launch thread site n args ∷ rest)
+      → launch_of shape sizes (before ++ Launch thread site n args ∷ rest) n
       ≡ Some (record { past = heap_after shape sizes before; thread = thread; site = site; args = args })
   pub one_place :
       (shape : ShapeLists) (sizes : Sizes)
       → (before rest before' rest' : List Event) (n thread site thread' site' : ℕ) (args args' : Args)
-      → IsLegal shape sizes (before ++ Launch thread n site args ∷ rest)
-      → before ++ Launch thread n site args ∷ rest ≡ before' ++ Launch thread' n site' args' ∷ rest'
+      → IsLegal shape sizes (before ++ Launch thread site n args ∷ rest)
+      → before ++ Launch thread site n args ∷ rest ≡ before' ++ Launch thread' site' n args' ∷ rest'
       → before ≡ before'

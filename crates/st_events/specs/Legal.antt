@@ -104,7 +104,7 @@ rules_of shape sizes w (Cas m obj field expect value done) =
     ∷ record { holds = fits_cell shape w.heap obj field expect && fits_cell shape w.heap obj field value; reason = WrongValue }
     ∷ record { holds = same_truth done (is_word (word_at w.heap obj field) expect); reason = WrongDone }
     ∷ []
-rules_of shape sizes w (Launch m number site args) =
+rules_of shape sizes w (Launch m site number args) =
     record { holds = nat_lt m sizes.mutators; reason = WrongThread }
     ∷ record { holds = number == w.epoch + 1; reason = WrongNumber }
     ∷ record { holds = nat_lt site (length shape.checks); reason = WrongSite }

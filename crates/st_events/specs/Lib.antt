@@ -2,6 +2,7 @@ pub mod Heap
 pub mod HeapCell
 pub mod History
 pub mod Journal
+pub mod Judge
 pub mod Kind
 pub mod Laws
 pub mod Legal

@@ -114,7 +114,7 @@ next shape sizes w (New m obj class) = record w {
 next shape sizes w (Load m obj field value) = w
 next shape sizes w (Store m obj field value) = changed sizes w obj field value
 next shape sizes w (Cas m obj field expect value done) = if done then changed sizes w obj field value else w
-next shape sizes w (Launch m number site args) = record w {
+next shape sizes w (Launch m site number args) = record w {
   epoch = w.epoch + 1;
   launched = at number (Some (record { past = w.heap; thread = m; site = site; args = args })) w.launched;
   active = w.active ++ number ∷ [];

@@ -56,8 +56,9 @@ pub enum Event {
     /// `m` launched check `number`, from 1, whose statement has the number `site`, from 0 in source order.
     Launch {
         m: u8,
-        number: u32,
+        // Before the number, so that it fits into the first word.
         site: u16,
+        number: u32,
         args: Args,
     },
     /// `m` retired check `number`, which is active from its launch up to here.
@@ -66,3 +67,6 @@ pub enum Event {
         number: u32,
     },
 }
+
+/// An event takes six words of 64 bits.
+const _: () = prove!(size_of::<Event>() == 48);

@@ -5,6 +5,7 @@
 mod events;
 mod heaps;
 mod journals;
+mod judges;
 mod laws;
 mod limits;
 mod reasons;
@@ -20,6 +21,7 @@ mod verdicts;
 pub use events::{Args, Event, Site};
 pub use heaps::{FIRST_OF_REGIONS, HeapMap, SHARED_OBJECT};
 pub use journals::Journal;
+pub use judges::Judge;
 pub use laws::laws_of_journals;
 pub use limits::{
     MOST_CALLS, MOST_COPIES, MOST_EVENTS, MOST_LANES, MOST_MUTATORS, MOST_OBJECTS, Sizes,

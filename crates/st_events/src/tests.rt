@@ -1,5 +1,6 @@
 //! Rows of small journals, with the answers that the rules of the heap give.
 
+mod judges;
 mod limits;
 
 use crate::{Args, Event, HeapMap, Journal, Kind, ReplayError, Shape, Sizes, Why, replay};

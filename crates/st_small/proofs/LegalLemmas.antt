@@ -68,7 +68,7 @@ legal-store program sizes w local field value left room r =
     rw (thread, here, word, fits) refl
 
 legal-launch : (program : SmallLists) (sizes : Sizes) (w : World) (local field value : ℕ) (place : Site) (left : List SmallStmt) → HaveRoom program sizes → IsReady program sizes w (Check local field value place ∷ left) →
-    IsLegalNext (shape_of program) sizes w (Launch 0 (w.epoch + 1) w.epoch (one_argument (2 + local)))
+    IsLegalNext (shape_of program) sizes w (Launch 0 w.epoch (w.epoch + 1) (one_argument (2 + local)))
 legal-launch program sizes w local field value place left room r =
     let node : IsNode program.fields (w.heap (2 + local)) = r.objects local r.in_order.0.0 in
     let thread : nat_lt 0 sizes.mutators ≡ true = lt-ltb 0 sizes.mutators (omega (arith, room.mutators)) in
@@ -95,7 +95,7 @@ legal-from program sizes w (Put local field value ∷ left) room r = (
 legal-from program sizes w (Check local field value place ∷ left) room r = (
   legal-launch program sizes w local field value place left room r,
   (
-    legal-retire program sizes (next (shape_of program) sizes w (Launch 0 (w.epoch + 1) w.epoch (one_argument (2 + local)))) (w.epoch + 1) (eq-eqb _ _ refl) (ap (λ ns. ns ++ (w.epoch + 1) ∷ []) r.active),
+    legal-retire program sizes (next (shape_of program) sizes w (Launch 0 w.epoch (w.epoch + 1) (one_argument (2 + local)))) (w.epoch + 1) (eq-eqb _ _ refl) (ap (λ ns. ns ++ (w.epoch + 1) ∷ []) r.active),
     legal-from program sizes (world_next (shape_of program) sizes w (Check local field value place)) left room (ready-next program sizes w (Check local field value place) left r),
   ),
 )

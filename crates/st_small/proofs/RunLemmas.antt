@@ -117,7 +117,7 @@ pub is-run : (program : SmallLists) (sizes : Sizes) (ran : RanLists) (events : L
 is-run program sizes ran events verdicts are is = is ∙ rw (are.0, are.1) refl
 
 -- just behind each launch stands the retirement of its check
-retired-next : (shape : ShapeLists) (at : Progress) (body : List SmallStmt) (place m number site : ℕ) (args : Args) → slice_get (events_from shape at body) place ≡ Some (Launch m number site args) →
+retired-next : (shape : ShapeLists) (at : Progress) (body : List SmallStmt) (place m number site : ℕ) (args : Args) → slice_get (events_from shape at body) place ≡ Some (Launch m site number args) →
     slice_get (events_from shape at body) (suc place) ≡ Some (Retire m number)
 retired-next shape at [] place m number site args e = cc
 retired-next shape at (Make ∷ rest) zero m number site args e = cc

@@ -96,7 +96,7 @@ reply_of (New m obj class) = obj
 reply_of (Load m obj field value) = value
 reply_of (Store m obj field value) = 0
 reply_of (Cas m obj field expect value done) = if done then 1 else 0
-reply_of (Launch m number site args) = 0
+reply_of (Launch m site number args) = 0
 reply_of (Retire m number) = 0
 
 -- the event answers what the thread does next
@@ -105,7 +105,7 @@ Answers (New m obj class) turn = turn ≡ asks (make class)
 Answers (Load m obj field value) turn = turn ≡ asks (load obj field)
 Answers (Store m obj field value) turn = turn ≡ asks (store obj field value)
 Answers (Cas m obj field expect value done) turn = turn ≡ asks (cas obj field expect value)
-Answers (Launch m number site args) turn = turn ≡ asks (launch site args)
+Answers (Launch m site number args) turn = turn ≡ asks (launch site args)
 Answers (Retire m number) turn = ⊥
 
 -- after these replies, each event answers the request of the code, and the code ends so after the last

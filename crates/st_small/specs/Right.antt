@@ -39,7 +39,7 @@ IsTruth verdict = ⊥
 -- just behind each launch stands the retirement of its check, by the same thread
 abbrev pub AreRetiredAtOnce : List Event → Type 0
 AreRetiredAtOnce journal =
-    (place m number site : ℕ) (args : Args) → slice_get journal place ≡ Some (Launch m number site args) → slice_get journal (place + 1) ≡ Some (Retire m number)
+    (place m number site : ℕ) (args : Args) → slice_get journal place ≡ Some (Launch m site number args) → slice_get journal (place + 1) ≡ Some (Retire m number)
 
 -- what a run leaves is right: the journal is legal; each thread has one end, and its own events follow its code to that
 -- end; each launched check has one verdict, which is right; no check is active at the end, and every copy is free; and a

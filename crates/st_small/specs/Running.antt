@@ -37,7 +37,7 @@ abbrev pub events_of : Progress → SmallStmt → List Event
 events_of at Make = New ONLY_THREAD (object_of_local at.made) NODE_CLASS ∷ []
 events_of at (Put local field value) = Store ONLY_THREAD (object_of_local local) field value ∷ []
 events_of at (Check local field value place) =
-    Launch ONLY_THREAD (at.launched + 1) at.launched (one_argument (object_of_local local)) ∷ Retire ONLY_THREAD (at.launched + 1) ∷ []
+    Launch ONLY_THREAD at.launched (at.launched + 1) (one_argument (object_of_local local)) ∷ Retire ONLY_THREAD (at.launched + 1) ∷ []
 
 -- the verdict of one statement, if it is a check
 abbrev pub verdicts_of : Progress → SmallStmt → List Verdict

@@ -136,13 +136,13 @@ driven-args s sizes width known held d = (
 )
 
 -- each known object stood at a launch that is just made
-launched-cells : (s : Snapshots) (m n site : ℕ) (args : Args) (object : ℕ × ℕ) → HasCells s object → HadCells (with_event s (Launch m n site args)) n object
+launched-cells : (s : Snapshots) (m n site : ℕ) (args : Args) (object : ℕ × ℕ) → HasCells s object → HadCells (with_event s (Launch m site n args)) n object
 launched-cells s m n site args object has = λ field lt.
-    subst (λ (w : World). IsSome (word_then (w.launched n) object.0 field)) (sym (world_after-snoc s.shape s.sizes s.journal (Launch m n site args)))
+    subst (λ (w : World). IsSome (word_then (w.launched n) object.0 field)) (sym (world_after-snoc s.shape s.sizes s.journal (Launch m site n args)))
     (rw (at-same n (Some (record { past = (world_of s).heap; thread = m; site = site; args = args })) (world_of s).launched) (has field lt))
 
 -- a launch
-pub driven-launch : (s s' : Snapshots) (sizes : Sizes) (width m site : ℕ) (args : Args) (lane : Lane) (known : List (ℕ × ℕ)) (held : List Lane) → IsDriven s sizes width known held → IsDriven s' sizes width known held → s' ≡ with_event s (Launch m lane.number site args) → IsLaneOf s' lane → HasNoLane s lane.number → IsDriven s' sizes width known (held ++ lane ∷ [])
+pub driven-launch : (s s' : Snapshots) (sizes : Sizes) (width m site : ℕ) (args : Args) (lane : Lane) (known : List (ℕ × ℕ)) (held : List Lane) → IsDriven s sizes width known held → IsDriven s' sizes width known held → s' ≡ with_event s (Launch m site lane.number args) → IsLaneOf s' lane → HasNoLane s lane.number → IsDriven s' sizes width known (held ++ lane ∷ [])
 driven-launch s s' sizes width m site args lane known held before d same is fresh = record {
   sizes = d.sizes;
   shape = d.shape;

@@ -79,7 +79,7 @@ epoch-from shape sizes w (e ∷ es) = omega (arith, epoch-from shape sizes (next
     epoch-next shape sizes w (Store m obj field value) = omega arith
     epoch-next shape sizes w (Cas m obj field expect value true) = omega arith
     epoch-next shape sizes w (Cas m obj field expect value false) = omega arith
-    epoch-next shape sizes w (Launch m number site args) = omega arith
+    epoch-next shape sizes w (Launch m site number args) = omega arith
     epoch-next shape sizes w (Retire m number) = omega arith
 
 pub epoch-small : (shape : ShapeLists) (sizes : Sizes) (t : TableLists) (journal : Written) → Holds shape sizes t journal → t.epoch < 2 ^ 32 - 1

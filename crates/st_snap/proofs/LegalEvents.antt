@@ -55,8 +55,8 @@ legal-cas shape sizes w m obj field expect value done thread cell expected kind 
     same true = refl
     same false = refl
 
-pub legal-launch : (shape : ShapeLists) (sizes : Sizes) (w : World) (m n site : ℕ) (args : Args) → m < sizes.mutators → n ≡ w.epoch + 1 → site < length shape.checks → args_fit w.heap (slice_get shape.checks site) args ≡ true → length w.active < sizes.lanes → IsLegalNext shape sizes w (Launch m n site args)
-legal-launch shape sizes w m n site args thread number statement arguments lane = none-fails (rules_of shape sizes w (Launch m n site args))
+pub legal-launch : (shape : ShapeLists) (sizes : Sizes) (w : World) (m n site : ℕ) (args : Args) → m < sizes.mutators → n ≡ w.epoch + 1 → site < length shape.checks → args_fit w.heap (slice_get shape.checks site) args ≡ true → length w.active < sizes.lanes → IsLegalNext shape sizes w (Launch m site n args)
+legal-launch shape sizes w m n site args thread number statement arguments lane = none-fails (rules_of shape sizes w (Launch m site n args))
     (lt-test m sizes.mutators thread, (eq-test n (w.epoch + 1) number, (lt-test site (length shape.checks) statement, (arguments, (lt-test (length w.active) sizes.lanes lane, tt)))))
 
 pub legal-retire : (shape : ShapeLists) (sizes : Sizes) (w : World) (m n : ℕ) → m ≤ sizes.mutators → is_among w.active n ≡ true → IsLegalNext shape sizes w (Retire m n)

@@ -52,7 +52,7 @@ small-next shape sizes w (Load m obj field value) fits s legal n l h = s.pasts n
 small-next shape sizes w (Store m obj field value) fits s legal n l h = s.pasts n l h
 small-next shape sizes w (Cas m obj field expect value true) fits s legal n l h = s.pasts n l h
 small-next shape sizes w (Cas m obj field expect value false) fits s legal n l h = s.pasts n l h
-small-next shape sizes w (Launch m number site args) fits s legal n l h = elim (eqb_tells n number) [
+small-next shape sizes w (Launch m site number args) fits s legal n l h = elim (eqb_tells n number) [
   | inl y ↦ small-past (record { past = w.heap; thread = m; site = site; args = args }) (rw y.0 at h) (small-typed shape w.heap fits s.sound.typed)
   | inr ne ↦ s.pasts n l (rw ne.0 at h)
 ]

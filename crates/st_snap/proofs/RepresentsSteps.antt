@@ -106,7 +106,7 @@ represents-new shape sizes w t t' m obj class s l r k = subst (λ (x : TableList
 
 -- ---- a launch
 
-pub represents-launch : (shape : ShapeLists) (sizes : Sizes) (w : World) (t : TableLists) (m n site i : ℕ) (args : Args) → IsSound shape sizes w → n ≡ w.epoch + 1 → slice_get t.lanes i ≡ Some None → Represents sizes w t → Represents sizes (next shape sizes w (Launch m n site args)) (record t { epoch = n; lanes = slice_set t.lanes i (Some n) })
+pub represents-launch : (shape : ShapeLists) (sizes : Sizes) (w : World) (t : TableLists) (m n site i : ℕ) (args : Args) → IsSound shape sizes w → n ≡ w.epoch + 1 → slice_get t.lanes i ≡ Some None → Represents sizes w t → Represents sizes (next shape sizes w (Launch m site n args)) (record t { epoch = n; lanes = slice_set t.lanes i (Some n) })
 represents-launch shape sizes w t m n site i args s number idle r = record {
   live = record {
     heap = r.live.heap;

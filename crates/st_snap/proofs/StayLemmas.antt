@@ -45,7 +45,7 @@ cell-next shape sizes w (Load m obj field value) o f s l some = some
 cell-next shape sizes w (Store m obj field value) o f s l some = cell-set w.heap obj field value o f some
 cell-next shape sizes w (Cas m obj field expect value true) o f s l some = cell-set w.heap obj field value o f some
 cell-next shape sizes w (Cas m obj field expect value false) o f s l some = some
-cell-next shape sizes w (Launch m number site args) o f s l some = some
+cell-next shape sizes w (Launch m site number args) o f s l some = some
 cell-next shape sizes w (Retire m number) o f s l some = some
 
 launched-next : (shape : ShapeLists) (sizes : Sizes) (w : World) (e : Event) (n : ℕ) (k : Launched) → IsSound shape sizes w → IsLegalNext shape sizes w e → w.launched n ≡ Some k → (next shape sizes w e).launched n ≡ Some k
@@ -54,7 +54,7 @@ launched-next shape sizes w (Load m obj field value) n k s l h = h
 launched-next shape sizes w (Store m obj field value) n k s l h = h
 launched-next shape sizes w (Cas m obj field expect value true) n k s l h = h
 launched-next shape sizes w (Cas m obj field expect value false) n k s l h = h
-launched-next shape sizes w (Launch m number site args) n k s l h = at-other number (Some (record { past = w.heap; thread = m; site = site; args = args })) w.launched n (λ e. omega (arith, e, (s.launches.only n k h).1, (legal_launch shape sizes w m number site args l).next_number)) ∙ h
+launched-next shape sizes w (Launch m site number args) n k s l h = at-other number (Some (record { past = w.heap; thread = m; site = site; args = args })) w.launched n (λ e. omega (arith, e, (s.launches.only n k h).1, (legal_launch shape sizes w m number site args l).next_number)) ∙ h
 launched-next shape sizes w (Retire m number) n k s l h = h
 
 -- what is known before an event

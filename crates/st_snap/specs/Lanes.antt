@@ -36,7 +36,7 @@ next_lanes lanes (New m obj class) = lanes
 next_lanes lanes (Load m obj field value) = lanes
 next_lanes lanes (Store m obj field value) = lanes
 next_lanes lanes (Cas m obj field expect value done) = lanes
-next_lanes lanes (Launch m number site args) = put_at number lanes (position is_idle lanes)
+next_lanes lanes (Launch m site number args) = put_at number lanes (position is_idle lanes)
 next_lanes lanes (Retire m number) = map (cleared number) lanes
 
 -- the lanes after more events

@@ -41,7 +41,7 @@ check_line thread event site verdict =
 
 -- the place and the verdict of the check that an event launches, if it launches one
 abbrev pub launched : List Site → List Verdict → Event → Option (Site × Verdict)
-launched sites verdicts (Launch m number site args) =
+launched sites verdicts (Launch m site number args) =
     option_and_then (λ place. option_and_then (λ verdict. Some (place, verdict)) (slice_get verdicts (number - 1))) (slice_get sites site)
 launched sites verdicts _ = None
 

@@ -135,7 +135,7 @@ impl<'a> Replay<'a> {
     }
 
     fn why_not_launch(&self, m: u8, number: u32, site: u16, args: Args) -> Option<Why>
-        ensures { result ≡ reason_of self.now (Launch m number site args) }
+        ensures { result ≡ reason_of self.now (Launch m site number args) }
     {
         if m >= self.sizes.mutators {
             return Some(Why::WrongThread);

@@ -19,7 +19,7 @@ impl SnapHeap {
         ensures no_lane { IsErr result ↔ (length (active_now self.old) ≡ self.old.sizes.lanes) }
         ensures err { OnErr result (self.new ≡ self.old) }
         ensures number { IfOk result (λ lane. lane.number ≡ (world_of self.old).epoch + 1) }
-        ensures event { IfOk result (λ lane. self.new ≡ with_event self.old (Event.Launch m lane.number site args)) }
+        ensures event { IfOk result (λ lane. self.new ≡ with_event self.old (Event.Launch m site lane.number args)) }
         ensures legal { IsLegalHeap self.new }
         ensures lane { IfOk result (λ lane. IsLaneOf self.new lane) }
         ensures fresh { IfOk result (λ lane. HasNoLane self.old lane.number) }

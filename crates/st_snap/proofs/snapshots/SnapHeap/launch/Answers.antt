@@ -36,10 +36,10 @@ invariant_of-self-2 c =
     let number : lane.number ≡ w.epoch + 1 = c.in-Some.ensures.1 ∙ ap (λ (n : ℕ). n + 1) c.self.invariant.tables.live.epoch in
     let free = one-idle f.sizes w.active f.table.lanes lane.index c.self.invariant.tables.lanes c.in-Some.ensures.0 in
     let whole : c.launch.new.self ≡ record f.table { epoch = lane.number; lanes = slice_set f.table.lanes lane.index (Some lane.number) } = c.in-Some.ensures.2 ∙ ap (λ (n : ℕ). record f.table { epoch = n; lanes = slice_set f.table.lanes lane.index (Some n) }) (sym c.in-Some.ensures.1) in
-    holds-next f.shape f.sizes f.table c.launch.new.self f.journal c.append.new.journal (Launch c.args.m lane.number c.args.site c.args.args) c.self.invariant spare c.append.ensures.events c.append.ensures.spare
+    holds-next f.shape f.sizes f.table c.launch.new.self f.journal c.append.new.journal (Launch c.args.m c.args.site lane.number c.args.args) c.self.invariant spare c.append.ensures.events c.append.ensures.spare
     (legal-launch f.shape f.sizes w c.args.m lane.number c.args.site c.args.args thread number site args free)
     (ap (λ (t : TableLists). t.lanes) whole ∙ ap (put_at lane.number f.table.lanes) (sym c.in-Some.ensures.0))
-    (subst (λ (t : TableLists). Represents f.sizes (next f.shape f.sizes w (Launch c.args.m lane.number c.args.site c.args.args)) t) (sym whole)
+    (subst (λ (t : TableLists). Represents f.sizes (next f.shape f.sizes w (Launch c.args.m c.args.site lane.number c.args.args)) t) (sym whole)
     (represents-launch f.shape f.sizes w f.table c.args.m lane.number c.args.site lane.index c.args.args (sound-now f.shape f.sizes f.table f.journal c.self.invariant) number (first-idle f.table.lanes lane.index c.in-Some.ensures.0) c.self.invariant.tables))
 
 pub returns-clause-no_lane : goal.returns-clause-no_lane
