@@ -12,7 +12,8 @@ use Rattle.st_events.specs.World.{World, Launched, next, world_from, world_after
 use Rattle.st_events.specs.Legal.{IsLegal, IsLegalNext, IsLegalFrom}
 use Rattle.st_events.specs.Sound.{Extends, IsSound}
 use Rattle.st_events.proofs.WorldLemmas.{at-other, world_after-append}
-use Rattle.st_events.proofs.LegalLemmas.{legal_new, legal_launch, IsLegal-prefix, IsLegal-rest}
+use Rattle.st_events.proofs.LegalLemmas.{IsLegal-prefix, IsLegal-rest}
+use Rattle.st_events.proofs.LegalEvents.{legal_new, legal_launch}
 use Rattle.st_events.proofs.SoundHeap.{next_is_absent, with_object-other, with_word-other}
 use Rattle.st_events.proofs.SoundLemmas.{sound-next, sound_after}
 use Rattle.st_events.proofs.KeptLemmas.{is_lost-front}

@@ -11,7 +11,7 @@ use Rattle.st_events.specs.World.{World, Launched, next, first_world, world_from
 use Rattle.st_events.specs.Legal.{IsLegal, IsLegalFrom}
 use Rattle.st_events.specs.History.{heap_after, launch_of, IsLaunchIn}
 use Rattle.st_events.proofs.WorldLemmas.{at-same, at-other, world_after-snoc}
-use Rattle.st_events.proofs.LegalLemmas.{legal_launch}
+use Rattle.st_events.proofs.LegalEvents.{legal_launch}
 use Rattle.st_events.proofs.ExtendsLemmas.{launch_of-stays}
 
 -- ---- what is known of a check comes from an event

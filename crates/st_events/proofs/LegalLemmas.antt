@@ -1,14 +1,10 @@
--- Legal journals: one more event, a part, what an event that is legal says
-use Rattle.std.proofs.Common.{◌≡◌, ℕ, ◌+◌, ◌<◌, ◌≤◌, ◌==◌, cond, Bool, true, false, ◌&&◌, List, [], ◌∷◌, ◌++◌, length, Some, None, refl, arith, IsSome, nat_le, nat_lt, slice_get}
-use Rattle.std.proofs.lemmas.Bool.Decides.{nat_tests}
+-- Legal journals: one more event, and a part
+use Rattle.std.proofs.Common.{List, [], ◌∷◌, ◌++◌}
 use Rattle.st_events.specs.declared.events.Event.{Event}
-use Rattle.st_events.specs.declared.events.Event.TheVariants.{New, Store, Cas, Launch, Retire}
-use Rattle.st_events.specs.declared.events.Args.{Args}
 use Rattle.st_events.specs.declared.limits.Sizes.{Sizes}
 use Rattle.st_events.specs.Shape.{ShapeLists}
-use Rattle.st_events.specs.Heap.{word_at}
-use Rattle.st_events.specs.World.{is_among, World, next, world_from, world_after, first_world}
-use Rattle.st_events.specs.Legal.{IsLegalNext, IsLegalFrom, IsLegal, Rule, first_failing, next_object, rules_of, fits_cell, args_fit}
+use Rattle.st_events.specs.World.{World, next, world_from, world_after, first_world}
+use Rattle.st_events.specs.Legal.{IsLegalNext, IsLegalFrom, IsLegal}
 
 -- the empty journal is legal
 pub IsLegal-empty : (shape : ShapeLists) (sizes : Sizes) → IsLegal shape sizes []
@@ -58,100 +54,9 @@ pub stays : (shape : ShapeLists) (sizes : Sizes) (P : World → Type 0) → P (f
 unfolding IsLegal
 stays shape sizes P first step es l = stays_from shape sizes P step (first_world shape) es first l
 
--- a list of rules of which none fails begins with one that holds, and none of the others fails
-first_failing-none : (rule : Rule) (rules : List Rule) → first_failing (rule ∷ rules) ≡ None → (rule.holds ≡ true) × (first_failing rules ≡ None)
-first_failing-none rule rules n = cases rule.holds refl n
-  where
-    cases : (b : Bool) → rule.holds ≡ b → cond b (first_failing rules) (Some rule.reason) ≡ None → (rule.holds ≡ true) × (first_failing rules ≡ None)
-    cases true e n = (e, n)
-    cases false e n = cc
-
-both : (a b : Bool) → (a && b) ≡ true → (a ≡ true) × (b ≡ true)
-both true b h = (refl, h)
-both false b h = cc
-
--- what a legal New says
-pub record LegalNew (shape : ShapeLists) (sizes : Sizes) (w : World) (m obj class : ℕ) : Type 0 where
-  pub thread : m < sizes.mutators
-  pub object : obj ≡ next_object sizes w m
-  pub room : w.made m < sizes.objects
-  pub some_class : 1 ≤ class
-  pub declared : class < length shape.classes
-
--- what a legal Store says, and a Cas of its value
-pub record LegalStore (shape : ShapeLists) (sizes : Sizes) (w : World) (m obj field value : ℕ) : Type 0 where
-  pub thread : m < sizes.mutators
-  pub object : IsSome (w.heap obj)
-  pub cell : IsSome (word_at w.heap obj field)
-  pub kind : fits_cell shape w.heap obj field value ≡ true
-
--- what a legal Launch says
-pub record LegalLaunch (shape : ShapeLists) (sizes : Sizes) (w : World) (m number site : ℕ) (args : Args) : Type 0 where
-  pub thread : m < sizes.mutators
-  pub next_number : number ≡ w.epoch + 1
-  pub statement : site < length shape.checks
-  pub arguments : args_fit w.heap (slice_get shape.checks site) args ≡ true
-  pub lane : length w.active < sizes.lanes
-
--- what a legal Retire says
-pub record LegalRetire (sizes : Sizes) (w : World) (m number : ℕ) : Type 0 where
-  pub thread : m ≤ sizes.mutators
-  pub active : is_among w.active number ≡ true
-
--- where no rule fails, each holds
-abbrev AllHold : List Rule → Type 0
-AllHold [] = Unit {0}
-AllHold (rule ∷ rules) = (rule.holds ≡ true) × AllHold rules
-
-all_hold : (rules : List Rule) → first_failing rules ≡ None → AllHold rules
-all_hold [] n = tt
-all_hold (rule ∷ rules) n = let h = first_failing-none rule rules n in (h.0, all_hold rules h.1)
-
--- a test of numbers as a fact
-pub is_below : (a b : ℕ) → nat_lt a b ≡ true → a < b
-is_below a b t = grind (arith, nat_tests)
-
-pub is_at_most : (a b : ℕ) → nat_le a b ≡ true → a ≤ b
-is_at_most a b t = grind (arith, nat_tests)
-
-pub is_same : (a b : ℕ) → (a == b) ≡ true → a ≡ b
-is_same a b t = grind (arith, nat_tests)
-
-pub legal_new : (shape : ShapeLists) (sizes : Sizes) (w : World) (m obj class : ℕ) → IsLegalNext shape sizes w (New m obj class) → LegalNew shape sizes w m obj class
-legal_new shape sizes w m obj class l =
-    let h = all_hold (rules_of shape sizes w (New m obj class)) l in
-    let next = both (obj == next_object sizes w m) (nat_lt (w.made m) sizes.objects) h.1.0 in
-    let known = both (nat_le 1 class) (nat_lt class (length shape.classes)) h.1.1.0 in
-    record {
-      thread = is_below m sizes.mutators h.0;
-      object = is_same obj (next_object sizes w m) next.0;
-      room = is_below (w.made m) sizes.objects next.1;
-      some_class = is_at_most 1 class known.0;
-      declared = is_below class (length shape.classes) known.1;
-    }
-
-pub legal_store : (shape : ShapeLists) (sizes : Sizes) (w : World) (m obj field value : ℕ) → IsLegalNext shape sizes w (Store m obj field value) → LegalStore shape sizes w m obj field value
-legal_store shape sizes w m obj field value l =
-    let h = all_hold (rules_of shape sizes w (Store m obj field value)) l in
-    record { thread = is_below m sizes.mutators h.0; object = h.1.0; cell = h.1.1.0; kind = h.1.1.1.0 }
-
-pub legal_cas : (shape : ShapeLists) (sizes : Sizes) (w : World) (m obj field expect value : ℕ) (done : Bool) → IsLegalNext shape sizes w (Cas m obj field expect value done) → LegalStore shape sizes w m obj field value
-legal_cas shape sizes w m obj field expect value done l =
-    let h = all_hold (rules_of shape sizes w (Cas m obj field expect value done)) l in
-    record { thread = is_below m sizes.mutators h.0; object = h.1.0; cell = h.1.1.0; kind = (both (fits_cell shape w.heap obj field expect) (fits_cell shape w.heap obj field value) h.1.1.1.0).1 }
-
-pub legal_launch : (shape : ShapeLists) (sizes : Sizes) (w : World) (m number site : ℕ) (args : Args) → IsLegalNext shape sizes w (Launch m site number args) → LegalLaunch shape sizes w m number site args
-legal_launch shape sizes w m number site args l =
-    let h = all_hold (rules_of shape sizes w (Launch m site number args)) l in
-    record {
-      thread = is_below m sizes.mutators h.0;
-      next_number = is_same number (w.epoch + 1) h.1.0;
-      statement = is_below site (length shape.checks) h.1.1.0;
-      arguments = h.1.1.1.0;
-      lane = is_below (length w.active) sizes.lanes h.1.1.1.1.0;
-    }
-
-pub legal_retire : (shape : ShapeLists) (sizes : Sizes) (w : World) (m number : ℕ) → IsLegalNext shape sizes w (Retire m number) → LegalRetire sizes w m number
-legal_retire shape sizes w m number l =
-    let h = all_hold (rules_of shape sizes w (Retire m number)) l in
-    record { thread = is_at_most m sizes.mutators h.0; active = h.1.0 }
+-- in a legal journal each event is legal after the events before it
+pub each_is_legal :
+    (shape : ShapeLists) (sizes : Sizes) (before rest : List Event) (e : Event)
+    → IsLegal shape sizes (before ++ e ∷ rest)
+    → IsLegalNext shape sizes (world_after shape sizes before) e
+each_is_legal shape sizes before rest e l = (IsLegal-rest shape sizes before (e ∷ rest) l).0

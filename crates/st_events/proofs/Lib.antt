@@ -2,20 +2,25 @@ pub mod AlikeLemmas
 mod AllLemmas
 pub mod AmongLemmas
 mod CellLemmas
+pub mod CountLemmas
 mod Examples
 pub mod ExtendsLemmas
 pub mod HeapLemmas
 pub mod JudgeLemmas
 pub mod KeptLemmas
 pub mod LaunchLemmas
+pub mod LegalEvents
 pub mod LegalLemmas
 pub mod PoolLemmas
 mod ReplayLemmas
+pub mod RetireLemmas
 pub mod RowLemmas
 mod ShapeLemmas
 pub mod SoundChecks
 pub mod SoundCopies
 pub mod SoundHeap
 pub mod SoundLemmas
+pub mod SoundRows
 pub mod SoundTypes
+pub mod WordLemmas
 pub mod WorldLemmas

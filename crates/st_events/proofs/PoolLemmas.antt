@@ -13,7 +13,7 @@ use Rattle.st_events.specs.World.{World, next, world_from, first_world, at, chan
 use Rattle.st_events.specs.Legal.{IsLegal, IsLegalFrom}
 use Rattle.st_events.specs.History.{lost_pairs, objects_of, is_new}
 use Rattle.st_events.specs.Sound.{IsSound}
-use Rattle.st_events.proofs.LegalLemmas.{legal_store, legal_cas, is_below}
+use Rattle.st_events.proofs.LegalEvents.{legal_store, legal_cas, is_below, cell_has_object}
 use Rattle.st_events.proofs.SoundHeap.{with_object-other, with_word-other}
 use Rattle.st_events.proofs.SoundLemmas.{sound-first, sound-next}
 use Rattle.st_events.proofs.AmongLemmas.{is_among-filter, or_first, or_second, same_number}
@@ -120,10 +120,10 @@ none_lost-from shape sizes w objs (New m obj class ∷ es) s a l large none = no
 none_lost-from shape sizes w objs (Load m obj field value ∷ es) s a l large none = none_lost-from shape sizes w objs es s a l.1 large none
 none_lost-from shape sizes w objs (Store m obj field value ∷ es) s a l large none =
     let after = changed sizes w obj field value in
-    none_lost-from shape sizes after objs es (sound-next shape sizes w (Store m obj field value) s l.0) (spread-changed shape sizes w objs obj field value (legal_store shape sizes w m obj field value l.0).object s a) l.1 large (none_lost-changed shape sizes w objs obj s a (omega (arith, large)) none)
+    none_lost-from shape sizes after objs es (sound-next shape sizes w (Store m obj field value) s l.0) (spread-changed shape sizes w objs obj field value (cell_has_object w.heap obj field (legal_store shape sizes w m obj field value l.0).cell) s a) l.1 large (none_lost-changed shape sizes w objs obj s a (omega (arith, large)) none)
 none_lost-from shape sizes w objs (Cas m obj field expect value true ∷ es) s a l large none =
     let after = changed sizes w obj field value in
-    none_lost-from shape sizes after objs es (sound-next shape sizes w (Cas m obj field expect value true) s l.0) (spread-changed shape sizes w objs obj field value (legal_cas shape sizes w m obj field expect value true l.0).object s a) l.1 large (none_lost-changed shape sizes w objs obj s a (omega (arith, large)) none)
+    none_lost-from shape sizes after objs es (sound-next shape sizes w (Cas m obj field expect value true) s l.0) (spread-changed shape sizes w objs obj field value (cell_has_object w.heap obj field (legal_cas shape sizes w m obj field expect value true l.0).cell) s a) l.1 large (none_lost-changed shape sizes w objs obj s a (omega (arith, large)) none)
 none_lost-from shape sizes w objs (Cas m obj field expect value false ∷ es) s a l large none = none_lost-from shape sizes w objs es s a l.1 large none
 none_lost-from shape sizes w objs (Launch m site number args ∷ es) s a l large none = none_lost-from shape sizes (next shape sizes w (Launch m site number args)) objs es (sound-next shape sizes w (Launch m site number args) s l.0) (record { objects = a.objects; checks = a.checks; few = a.few }) l.1 large none
 none_lost-from shape sizes w objs (Retire m number ∷ es) s a l large none = none_lost-from shape sizes (next shape sizes w (Retire m number)) objs es (sound-next shape sizes w (Retire m number) s l.0) (spread-retire shape sizes w objs m number a) l.1 large none

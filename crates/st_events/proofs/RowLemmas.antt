@@ -33,11 +33,13 @@ abbrev pub HaveChecks : List Row → Type 0
 HaveChecks [] = Unit {0}
 HaveChecks (row ∷ rows) = ((n : ℕ) × (is_among row.checks n ≡ true)) × HaveChecks rows
 
-one_if-le : (b : Bool) → one_if b ≤ 1
+-- it is at most 1
+pub one_if-le : (b : Bool) → one_if b ≤ 1
 one_if-le true = omega arith
 one_if-le false = omega arith
 
-one_if-implies : (a b : Bool) → (a ≡ true → b ≡ true) → one_if a ≤ one_if b
+-- where one test implies another
+pub one_if-implies : (a b : Bool) → (a ≡ true → b ≡ true) → one_if a ≤ one_if b
 one_if-implies false b h = omega arith
 one_if-implies true b h = rw (h refl) (omega arith)
 

@@ -9,9 +9,9 @@ use Rattle.st_events.specs.declared.limits.Sizes.{Sizes}
 use Rattle.st_events.specs.Shape.{ShapeLists}
 use Rattle.st_events.specs.Heap.{Object, with_object, with_word, set_word, fresh}
 use Rattle.st_events.specs.World.{World, Launched, next, at, changed}
-use Rattle.st_events.specs.Sound.{AreLaunches, AreActive, AreStamps, ArePasts}
+use Rattle.st_events.specs.Sound.{AreLaunches, AreActive, AreStamps, ArePasts, AreFittingLaunches, IsFittingLaunch}
 use Rattle.st_events.proofs.WorldLemmas.{at-same, at-other}
-use Rattle.st_events.proofs.LegalLemmas.{LegalLaunch}
+use Rattle.st_events.specs.LegalEvents.{LegalLaunch}
 use Rattle.st_events.proofs.SoundHeap.{with_object-same, with_object-other, with_word-same, with_word-other}
 use Rattle.st_events.proofs.AmongLemmas.{is_among-snoc, is_among-without, length-filter, IsRising-filter, IsRising-snoc}
 
@@ -101,3 +101,23 @@ pasts-launch shape sizes w m number site args p =
         | inr e ↦ p.same o n l (sym (at-other number (Some here) w.launched n e.1) ∙ h) below
       ];
     }
+
+-- ---- what is known of launches fits
+
+-- a Launch that is legal fits, and the others stay
+pub fitting-launch : (shape : ShapeLists) (sizes : Sizes) (w : World) (m number site : ℕ) (args : Args) → AreFittingLaunches shape sizes w → LegalLaunch shape sizes w m number site args → AreFittingLaunches shape sizes (next shape sizes w (Launch m site number args))
+fitting-launch shape sizes w m number site args f l = record {
+  each = λ n x h. elim (eqb_tells n number) [
+    | inl e ↦ of_this x (some x (sym (ap (at number (Some here) w.launched) e.1 ∙ at-same number (Some here) w.launched) ∙ h))
+    | inr e ↦ f.each n x (sym (at-other number (Some here) w.launched n e.1) ∙ h)
+  ];
+}
+  where
+    here : Launched
+    here = record { past = w.heap; thread = m; site = site; args = args }
+
+    some : (x : Launched) → Some here ≡ Some x → here ≡ x
+    some x e = cc
+
+    of_this : (x : Launched) → here ≡ x → IsFittingLaunch shape sizes x
+    of_this x e = subst (λ (y : Launched). IsFittingLaunch shape sizes y) e (record { thread = l.thread; statement = l.statement; arguments = l.arguments })

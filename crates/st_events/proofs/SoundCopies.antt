@@ -11,7 +11,7 @@ use Rattle.st_events.specs.Heap.{Object}
 use Rattle.st_events.specs.World.{World, Launched, next, at, changed, is_among, is_kept, is_lost, is_full, needing_in, row_if_needed, released}
 use Rattle.st_events.specs.Sound.{AreLaunches, AreActive, AreStamps, ArePasts, AreCopies, IsNoted}
 use Rattle.st_events.proofs.WorldLemmas.{at-same, at-other}
-use Rattle.st_events.proofs.LegalLemmas.{LegalLaunch}
+use Rattle.st_events.specs.LegalEvents.{LegalLaunch}
 use Rattle.st_events.proofs.AmongLemmas.{is_among-snoc, is_among-front, is_among-filter, filter-is_among, is_among-without, without-is_among}
 use Rattle.st_events.proofs.KeptLemmas.{is_kept-append, is_kept-front, is_kept-back, is_kept-row, row-is_kept, length-row_if_needed, is_kept-released, released-is_kept, length-released, is_lost-append, is_lost-front, is_lost-back, is_lost-pairs, pairs-is_lost}
 

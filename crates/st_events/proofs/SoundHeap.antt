@@ -10,7 +10,7 @@ use Rattle.st_events.specs.Heap.{Heap, Object, class_at, with_object, with_word,
 use Rattle.st_events.specs.World.{World, next, at, changed}
 use Rattle.st_events.specs.Sound.{IsMade, AreRegions}
 use Rattle.st_events.proofs.WorldLemmas.{at-same}
-use Rattle.st_events.proofs.LegalLemmas.{LegalNew}
+use Rattle.st_events.specs.LegalEvents.{LegalNew}
 
 -- ---- the heap with one object more, and with one word set
 

@@ -48,10 +48,11 @@ has_kind-zero heap (Ref class) = refl
 
 -- ---- a new object
 
-zeros : (kinds : List Kind) (field : ℕ) (word : ℕ) → slice_get (map (λ _. 0) kinds) field ≡ Some word → (kind : Kind) × (slice_get kinds field ≡ Some kind) × (word ≡ 0)
-zeros [] field word h = cc
-zeros (kind ∷ kinds) zero word h = let e : word ≡ 0 = cc in (kind, refl, e)
-zeros (kind ∷ kinds) (suc field) word h = zeros kinds field word h
+-- each word of a new object is 0
+pub new_words_are_zero : (kinds : List Kind) (field : ℕ) (word : ℕ) → slice_get (map (λ _. 0) kinds) field ≡ Some word → (kind : Kind) × (slice_get kinds field ≡ Some kind) × (word ≡ 0)
+new_words_are_zero [] field word h = cc
+new_words_are_zero (kind ∷ kinds) zero word h = let e : word ≡ 0 = cc in (kind, refl, e)
+new_words_are_zero (kind ∷ kinds) (suc field) word h = new_words_are_zero kinds field word h
 
 pub classes-new : (heap : Heap) (obj : ℕ) (x : Object) → heap obj ≡ None → KeepsClasses heap (with_object heap obj x)
 classes-new heap obj x absent = record {
@@ -93,7 +94,7 @@ are_typed-new shape heap obj class absent declared t =
     new_word : (o field word : ℕ) → o ≡ obj → word_at (with_object heap obj (fresh shape class)) o field ≡ Some word → fits_cell shape (with_object heap obj (fresh shape class)) o field word ≡ true
     new_word o field word same e =
         let is : with_object heap obj (fresh shape class) o ≡ Some (fresh shape class) = ap (with_object heap obj (fresh shape class)) same ∙ with_object-same heap obj (fresh shape class) in
-        let z = zeros (kinds_of shape class) field word (subst (λ (y : Option Object). word_of y field ≡ Some word) is e) in
+        let z = new_words_are_zero (kinds_of shape class) field word (subst (λ (y : Option Object). word_of y field ≡ Some word) is e) in
         subst (λ (y : Option Object). has_kind_if_any (with_object heap obj (fresh shape class)) (kind_of shape y field) word ≡ true) (sym is)
         (subst (λ (kind : Option Kind). has_kind_if_any (with_object heap obj (fresh shape class)) kind word ≡ true) (sym z.1)
         (subst (λ (n : ℕ). has_kind (with_object heap obj (fresh shape class)) z.0 n ≡ true) (sym z.2) (has_kind-zero (with_object heap obj (fresh shape class)) z.0)))

@@ -27,6 +27,10 @@ active_checks shape sizes es = (world_after shape sizes es).active
 abbrev pub needing : ShapeLists → Sizes → List Event → ℕ → List ℕ
 needing shape sizes es obj = needing_in (world_after shape sizes es) obj
 
+-- how many objects a mutator has made
+abbrev pub made_by : ShapeLists → Sizes → List Event → ℕ → ℕ
+made_by shape sizes es m = (world_after shape sizes es).made m
+
 -- the copies kept, one row for each
 abbrev pub kept_rows : ShapeLists → Sizes → List Event → List Row
 kept_rows shape sizes es = (world_after shape sizes es).kept
@@ -56,6 +60,21 @@ is_own thread (Cas m obj field expect value done) = m == thread
 is_own thread (Launch m site number args) = m == thread
 is_own thread (Retire m number) = false
 
+-- the check was retired by an event of the journal, of this thread
+pub record IsRetireIn (es : List Event) (number thread : ℕ) : Type 0 where
+  pub before : List Event
+  pub rest : List Event
+  pub split : es ≡ before ++ Retire thread number ∷ rest
+
+-- whether the event launches a check
+abbrev pub is_launch : Event → Bool
+is_launch (New m obj class) = false
+is_launch (Load m obj field value) = false
+is_launch (Store m obj field value) = false
+is_launch (Cas m obj field expect value done) = false
+is_launch (Launch m site number args) = true
+is_launch (Retire m number) = false
+
 -- whether the event launches the check of this number
 abbrev pub is_launch_of : ℕ → Event → Bool
 is_launch_of n (New m obj class) = false
@@ -81,6 +100,15 @@ is_new (Store m obj field value) = false
 is_new (Cas m obj field expect value done) = false
 is_new (Launch m site number args) = false
 is_new (Retire m number) = false
+
+-- whether the event makes an object of this mutator
+abbrev pub is_new_of : ℕ → Event → Bool
+is_new_of thread (New m obj class) = m == thread
+is_new_of thread (Load m obj field value) = false
+is_new_of thread (Store m obj field value) = false
+is_new_of thread (Cas m obj field expect value done) = false
+is_new_of thread (Launch m site number args) = false
+is_new_of thread (Retire m number) = false
 
 -- how many objects a journal has: the shared one, and one for each New
 abbrev pub objects_of : List Event → ℕ

@@ -1,15 +1,21 @@
-use Rattle.std.specs.Prelude.{◌≡◌, ℕ, ◌*◌, ◌+◌, ◌≤◌, true, List, [], ◌∷◌, ◌++◌, Some}
+-- The laws of all journals: of every shape, all sizes and any events.
+use Rattle.std.specs.Prelude.{◌≡◌, ℕ, ◌*◌, ◌+◌, ◌≤◌, ◌⊎◌, Bool, true, false, List, [], ◌∷◌, ◌++◌, length, filter, All, Some}
 use Rattle.st_events.specs.declared.events.Args.{Args}
 use Rattle.st_events.specs.declared.events.Event.{Event}
-use Rattle.st_events.specs.declared.events.Event.TheVariants.{Launch}
+use Rattle.st_events.specs.declared.events.Event.TheVariants.{Launch, Retire}
 use Rattle.st_events.specs.declared.limits.Sizes.{Sizes}
+use Rattle.st_events.specs.declared.verdicts.Verdict.{Verdict}
 use Rattle.st_events.specs.Shape.{ShapeLists, IsWithinLimits}
-use Rattle.st_events.specs.World.{Launched, next, world_after, is_lost}
+use Rattle.st_events.specs.World.{Launched, next, world_after, is_among, is_lost}
 use Rattle.st_events.specs.Legal.{IsLegal, IsLegalNext}
-use Rattle.st_events.specs.History.{heap_after, launch_of, IsLaunchIn, lost_pairs, objects_of}
+use Rattle.st_events.specs.History.{heap_after, epoch_of, made_by, active_checks, launch_of, lost_pairs, objects_of}
+use Rattle.st_events.specs.History.{IsLaunchIn, IsRetireIn, is_launch, is_new_of}
+use Rattle.st_events.specs.Judge.{IsJudge, IsRightByLaunch, AllowsMoreLost}
+use Rattle.st_events.specs.Words.{BringsWords, HoldsWords, IsLaunchOfWords}
 use Rattle.st_events.specs.Sound.{Extends, IsSound}
 
--- one event more makes of a journal's world its next, and keeps it legal where the event is legal after it
+-- one event more makes of a journal's world its next, and keeps it legal where the event is legal after it; and in a legal journal
+-- each event is legal after those before it
 pub record GrowByEvents : Type 0 where
   pub world :
       (shape : ShapeLists) (sizes : Sizes) (es : List Event) (e : Event)
@@ -19,6 +25,10 @@ pub record GrowByEvents : Type 0 where
       → IsLegal shape sizes es
       → IsLegalNext shape sizes (world_after shape sizes es) e
       → IsLegal shape sizes (es ++ e ∷ [])
+  pub each :
+      (shape : ShapeLists) (sizes : Sizes) (before rest : List Event) (e : Event)
+      → IsLegal shape sizes (before ++ e ∷ rest)
+      → IsLegalNext shape sizes (world_after shape sizes before) e
 
 -- a prefix of a legal journal is legal
 abbrev pub HaveLegalPrefixes : Type 0
@@ -77,3 +87,59 @@ pub record TellOfLaunches : Type 0 where
       → IsLegal shape sizes (before ++ Launch thread site n args ∷ rest)
       → before ++ Launch thread site n args ∷ rest ≡ before' ++ Launch thread' site' n args' ∷ rest'
       → before ≡ before'
+
+-- a check that was launched is active, or was retired by an event of the journal; not both; only launched checks are retired; and each
+-- number is retired at one place alone, by one thread
+pub record TellOfRetires : Type 0 where
+  pub active_or_retired :
+      (shape : ShapeLists) (sizes : Sizes) (es : List Event) (n : ℕ) (launch : Launched)
+      → launch_of shape sizes es n ≡ Some launch
+      → (is_among (active_checks shape sizes es) n ≡ true) ⊎ ((thread : ℕ) × IsRetireIn es n thread)
+  pub not_both :
+      (shape : ShapeLists) (sizes : Sizes) → IsWithinLimits shape
+      → (es : List Event) (n thread : ℕ)
+      → IsLegal shape sizes es
+      → IsRetireIn es n thread
+      → is_among (active_checks shape sizes es) n ≡ false
+  pub launched :
+      (shape : ShapeLists) (sizes : Sizes) → IsWithinLimits shape
+      → (es : List Event) (n thread : ℕ)
+      → IsLegal shape sizes es
+      → IsRetireIn es n thread
+      → (launch : Launched) × (launch_of shape sizes es n ≡ Some launch)
+  pub one_place :
+      (shape : ShapeLists) (sizes : Sizes) → IsWithinLimits shape
+      → (before rest before' rest' : List Event) (n thread thread' : ℕ)
+      → IsLegal shape sizes (before ++ Retire thread n ∷ rest)
+      → before ++ Retire thread n ∷ rest ≡ before' ++ Retire thread' n ∷ rest'
+      → (before ≡ before') × (thread ≡ thread')
+
+-- the epoch is the number of Launch events, and a mutator has made as many objects as it has New events
+pub record CountEvents : Type 0 where
+  pub epoch :
+      (shape : ShapeLists) (sizes : Sizes) (es : List Event)
+      → epoch_of shape sizes es ≡ length (filter is_launch es)
+  pub made :
+      (shape : ShapeLists) (sizes : Sizes) (es : List Event) (m : ℕ)
+      → made_by shape sizes es m ≡ length (filter (is_new_of m) es)
+
+-- where the events bring words, the heap after them holds words, and so does each launch
+pub record KeepWords : Type 0 where
+  pub heap :
+      (shape : ShapeLists) (sizes : Sizes) (es : List Event)
+      → All BringsWords es
+      → HoldsWords (heap_after shape sizes es)
+  pub launches :
+      (shape : ShapeLists) (sizes : Sizes) (es : List Event) (n : ℕ) (launch : Launched)
+      → All BringsWords es
+      → launch_of shape sizes es n ≡ Some launch
+      → IsLaunchOfWords launch
+
+-- a test of a launch, of what is lost for its check, and of a verdict, that holds also where more is lost, makes a judge: what is right for a
+-- legal journal is right for every legal journal that has it as a prefix, and only a launched check has a right verdict
+abbrev pub JudgeByLaunches : Type 0
+JudgeByLaunches =
+    (shape : ShapeLists) → IsWithinLimits shape
+    → (test : Sizes → Launched → (ℕ → Bool) → Verdict → Bool)
+    → AllowsMoreLost (λ sizes launch lost verdict. test sizes launch lost verdict ≡ true)
+    → IsJudge shape (IsRightByLaunch (λ sizes launch lost verdict. test sizes launch lost verdict ≡ true) shape)

@@ -6,9 +6,11 @@ pub mod Judge
 pub mod Kind
 pub mod Laws
 pub mod Legal
+pub mod LegalEvents
 pub mod Ran
 pub mod Seen
 pub mod Shape
 pub mod Sizes
 pub mod Sound
+pub mod Words
 pub mod World

@@ -1,10 +1,11 @@
-use Rattle.std.specs.Prelude.{◌≡◌, ℕ, ◌+◌, ◌*◌, ◌<◌, ◌≤◌, ◌⊎◌, true, List, [], ◌∷◌, length, Some, None, IsSome}
+-- What holds of a world after a legal journal, part by part.
+use Rattle.std.specs.Prelude.{◌≡◌, ℕ, ◌+◌, ◌*◌, ◌<◌, ◌≤◌, ◌==◌, ◌&&◌, ◌⊎◌, Bool, true, false, List, [], ◌∷◌, length, filter, All, Some, None, IsSome, slice_get}
 use Rattle.st_events.specs.declared.heaps.TheConstants.{FIRST_OF_REGIONS, SHARED_OBJECT}
 use Rattle.st_events.specs.declared.limits.Sizes.{Sizes}
 use Rattle.st_events.specs.Shape.{ShapeLists, kinds_of}
 use Rattle.st_events.specs.Heap.{Heap, Object, class_at, word_at}
-use Rattle.st_events.specs.World.{World, Launched, is_among, is_kept, is_lost}
-use Rattle.st_events.specs.Legal.{fits_cell}
+use Rattle.st_events.specs.World.{World, Launched, Row, is_among, is_kept, is_lost}
+use Rattle.st_events.specs.Legal.{fits_cell, args_fit}
 
 -- the heap has the shared object; its classes are declared; an object has a word for each field of its class; and each
 -- word has the kind of its cell
@@ -73,6 +74,32 @@ pub record AreCopies (sizes : Sizes) (w : World) : Type 0 where
   pub lost_noted : (obj n : ℕ) → is_lost w.lost obj n ≡ true → IsNoted w obj n
   pub whole : (obj n : ℕ) → is_among w.active n ≡ true → IsNoted w obj n → (is_kept w.kept obj n ≡ true) ⊎ (is_lost w.lost obj n ≡ true)
 
+-- whether the row keeps a version of the object for the check
+abbrev pub is_row_of : ℕ → ℕ → Row → Bool
+is_row_of obj number row = (row.obj == obj) && is_among row.checks number
+
+-- how many rows keep a version of the object for the check
+abbrev pub rows_of : ℕ → ℕ → List Row → ℕ
+rows_of obj number rows = length (filter (is_row_of obj number) rows)
+
+-- each row is needed by some check; an object and a check are in at most one row; no pair is both kept and lost; and where no check
+-- is active there is no row
+pub record AreRowsApart (w : World) : Type 0 where
+  pub needed : All (λ row. 1 ≤ length row.checks) w.kept
+  pub one_row : (obj n : ℕ) → rows_of obj n w.kept ≤ 1
+  pub not_both : (obj n : ℕ) → is_kept w.kept obj n ≡ true → is_lost w.lost obj n ≡ false
+  pub none_idle : w.active ≡ [] → w.kept ≡ []
+
+-- what is known of a launched check fits: its thread is a mutator, its statement exists, and on its past its arguments fit the statement
+pub record IsFittingLaunch (shape : ShapeLists) (sizes : Sizes) (launch : Launched) : Type 0 where
+  pub thread : launch.thread < sizes.mutators
+  pub statement : launch.site < length shape.checks
+  pub arguments : args_fit launch.past (slice_get shape.checks launch.site) launch.args ≡ true
+
+-- each launch fits
+pub record AreFittingLaunches (shape : ShapeLists) (sizes : Sizes) (w : World) : Type 0 where
+  pub each : (n : ℕ) (launch : Launched) → w.launched n ≡ Some launch → IsFittingLaunch shape sizes launch
+
 -- all that holds after a legal journal
 pub record IsSound (shape : ShapeLists) (sizes : Sizes) (w : World) : Type 0 where
   pub typed : IsTypedHeap shape w.heap
@@ -82,3 +109,5 @@ pub record IsSound (shape : ShapeLists) (sizes : Sizes) (w : World) : Type 0 whe
   pub stamps : AreStamps w
   pub pasts : ArePasts w
   pub copies : AreCopies sizes w
+  pub rows : AreRowsApart w
+  pub fitting : AreFittingLaunches shape sizes w

@@ -4,7 +4,7 @@ use Rattle.std.proofs.lemmas.Bool.Decides.{nat_tests}
 use Rattle.st_snap.specs.declared.headers.Forward.{Forward}
 use Rattle.st_snap.specs.declared.headers.Target.{Target}
 use Rattle.st_snap.specs.Headers.{forward_one, forward_all}
-use Rattle.st_events.proofs.LegalLemmas.{is_below}
+use Rattle.st_events.proofs.LegalEvents.{is_below}
 
 -- the forwarding word of a lane after a change: as before, where no check is at the lane that was launched after the stamp;
 -- else that check is sent to the target

@@ -6,7 +6,7 @@ use Rattle.std.proofs.lemmas.List.{get_or-set_same, get_or-set_other, length-map
 use Rattle.std.proofs.lemmas.List.Sums.{sum_by-cons, sum_by-append, sum_by_push}
 use Rattle.std.proofs.lemmas.List.Elements.{All-map, All-contains, filter_more}
 use Rattle.std.proofs.lemmas.Bool.Decides.{eqb_tells}
-use Rattle.st_events.proofs.LegalLemmas.{is_below}
+use Rattle.st_events.proofs.LegalEvents.{is_below}
 use Rattle.st_snap.specs.declared.pools.Version.{Version}
 use Rattle.st_snap.specs.Pool.{KeptVersion}
 use Rattle.st_snap.specs.PoolLists.{kept_of, uses}

@@ -14,7 +14,7 @@ use Rattle.st_events.specs.Heap.{Heap, with_object, fresh}
 use Rattle.st_events.specs.World.{World, Launched, next, first_world, at, without, released}
 use Rattle.st_events.specs.Sound.{IsSound}
 use Rattle.st_events.proofs.WorldLemmas.{at-same, at-other}
-use Rattle.st_events.proofs.LegalLemmas.{LegalNew}
+use Rattle.st_events.specs.LegalEvents.{LegalNew}
 use Rattle.st_events.proofs.SoundHeap.{next_is_absent}
 use Rattle.st_snap.specs.declared.headers.Header.{Header}
 use Rattle.st_snap.specs.Lanes.{is_idle, is_between}

@@ -13,7 +13,8 @@ use Rattle.st_events.specs.World.{World, Launched, next}
 use Rattle.st_events.specs.Legal.{IsLegalNext}
 use Rattle.st_events.specs.Sound.{IsSound}
 use Rattle.st_events.proofs.WorldLemmas.{world_after-snoc, at-other}
-use Rattle.st_events.proofs.LegalLemmas.{legal_new, legal_launch, IsLegal-prefix, IsLegal-rest}
+use Rattle.st_events.proofs.LegalLemmas.{IsLegal-prefix, IsLegal-rest}
+use Rattle.st_events.proofs.LegalEvents.{legal_new, legal_launch}
 use Rattle.st_events.proofs.SoundHeap.{with_object-other, with_word-same, with_word-other, next_is_absent}
 use Rattle.st_events.proofs.SoundLemmas.{sound_after}
 use Rattle.st_snap.specs.Snapshots.{Snapshots, world_of, with_event, IsLegalHeap, HasCell, HadCell, word_then}

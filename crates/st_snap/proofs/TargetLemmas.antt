@@ -6,7 +6,7 @@ use Rattle.st_events.specs.declared.limits.Sizes.{Sizes}
 use Rattle.st_events.specs.Heap.{Object}
 use Rattle.st_events.specs.World.{World, Pair, is_lost, is_full, needing_in, lost_at_change}
 use Rattle.st_events.proofs.AmongLemmas.{is_among-filter}
-use Rattle.st_events.proofs.LegalLemmas.{is_below}
+use Rattle.st_events.proofs.LegalEvents.{is_below}
 use Rattle.st_events.proofs.KeptLemmas.{is_lost-append, is_lost-front, is_lost-pairs}
 use Rattle.st_snap.specs.declared.headers.Forward.{Forward}
 use Rattle.st_snap.specs.declared.headers.Header.{Header}

@@ -8,7 +8,7 @@ use Rattle.st_snap.proofs.RepresentsSteps.{represents-new}
 use Rattle.st_snap.proofs.TableLemmas.{made_same_lanes}
 use Rattle.st_snap.proofs.snapshots.SnapHeap.new.Goals as goal
 use Rattle.st_events.specs.Legal.{next_object}
-use Rattle.st_events.proofs.LegalLemmas.{legal_new}
+use Rattle.st_events.proofs.LegalEvents.{legal_new}
 
 pub invariant_of-self : goal.invariant_of-self
 invariant_of-self c =
