@@ -3,12 +3,10 @@ use Rattle.std.proofs.Common.{◌≡◌, ℕ, ◌<◌, Bool, true, false, ◌&&�
 use Rattle.std.specs.List.{list_all}
 use Rattle.std.proofs.lemmas.Bool.{true≢false, false≢true, and_parts}
 use Rattle.std.proofs.lemmas.Bool.Decides.{nat_tests}
-use Rattle.st_lex.specs.declared.kinds.TokenKind.{TokenKind}
-use Rattle.st_lex.specs.declared.kinds.TokenKind.TheVariants.{Word, Key, Number, Mark}
-use Rattle.st_lex.specs.declared.limits.TheConstants.{LARGEST_NUMBER}
+use Rattle.st_lex.specs.Types.{TokenKind, Word, Key, Number, Mark, LARGEST_NUMBER}
 use Rattle.st_lex.specs.Bytes.{is_blank, is_letter, is_digit, is_name_byte}
 use Rattle.st_lex.specs.Spellings.{is_name, is_keyword, is_number, decimal, is_mark, is_spelling, HasForm}
-use Rattle.st_lex.proofs.Runs.{no}
+use Rattle.st_lex.proofs.Runs.{false_where_not_true}
 use Rattle.st_lex.proofs.Tables.{is_other, single_no, double_no}
 use Rattle.st_lex.proofs.PieceLemmas.{letter_apart, letter_other, digit_other, blank_other}
 
@@ -53,23 +51,28 @@ one_kind Mark Key bytes a b = absurd (name_not_mark bytes b.0 a)
 one_kind Mark (Number n) bytes a b = absurd (number_not_mark bytes b.0 a)
 one_kind Mark Mark bytes a b = refl
 
+-- a number is spelled as a token
+pub number_spelled : (bytes : List ℕ) → is_number bytes ≡ true → is_spelling bytes ≡ true
+unfolding is_spelling
+number_spelled bytes number = elim (is_name bytes) as (λ t. (t || is_number bytes || is_mark bytes) ≡ true) [
+  | true ↦ refl
+  | false ↦ rw number refl
+]
+
 -- what has a form is spelled as a token
 pub spelled : (k : TokenKind) (bytes : List ℕ) → HasForm k bytes → is_spelling bytes ≡ true
 unfolding is_spelling
 spelled Word bytes a = rw a.0 refl
 spelled Key bytes a = rw a.0 refl
-spelled (Number n) bytes a = let number = a.0 in elim (is_name bytes) as (λ t. (t || is_number bytes || is_mark bytes) ≡ true) [ true ↦ refl | false ↦ rw number refl ]
+spelled (Number n) bytes a = number_spelled bytes a.0
 spelled Mark bytes a = elim (is_name bytes) as (λ t. (t || is_number bytes || is_mark bytes) ≡ true) [
   | true ↦ refl
   | false ↦ elim (is_number bytes) as (λ t. (t || is_mark bytes) ≡ true) [ true ↦ refl | false ↦ a ]
 ]
 
-pub number_spelled : (bytes : List ℕ) → is_number bytes ≡ true → is_spelling bytes ≡ true
-unfolding is_spelling
-number_spelled bytes number = elim (is_name bytes) as (λ t. (t || is_number bytes || is_mark bytes) ≡ true) [ true ↦ refl | false ↦ rw number refl ]
-
 -- a number above the largest is no token
-pub no_long_token : (k : TokenKind) (bytes : List ℕ) → is_number bytes ≡ true → LARGEST_NUMBER < decimal bytes → HasForm k bytes → ⊥
+pub no_long_token : (k : TokenKind) (bytes : List ℕ) → is_number bytes ≡ true → LARGEST_NUMBER < decimal bytes → HasForm k bytes
+    → ⊥
 no_long_token Word bytes number above a = name_not_number bytes a.0 number
 no_long_token Key bytes number above a = name_not_number bytes a.0 number
 no_long_token (Number n) bytes number above a = let fits = a.2 in omega arith
@@ -81,6 +84,7 @@ blank_apart b h = (grind (arith, nat_tests), grind (arith, nat_tests))
 -- no token begins with a blank
 pub spelled_no_blank : (b : ℕ) (bytes : List ℕ) → is_spelling (b ∷ bytes) ≡ true → is_blank b ≡ false
 unfolding is_spelling
-spelled_no_blank b bytes h = no (is_blank b) (λ blank. let apart = blank_apart b blank in
-    let none : (is_letter b && list_all is_name_byte bytes || is_digit b && list_all is_digit bytes || is_mark (b ∷ bytes)) ≡ false = rw (apart.0, apart.1, not_mark b bytes (blank_other b blank)) refl in
-    clash (is_letter b && list_all is_name_byte bytes || is_digit b && list_all is_digit bytes || is_mark (b ∷ bytes)) h none)
+spelled_no_blank b bytes h = false_where_not_true (is_blank b) (λ blank. let apart = blank_apart b blank in
+    let none : (is_letter b && list_all is_name_byte bytes || is_digit b && list_all is_digit bytes || is_mark (b ∷ bytes)) ≡ false =
+    rw (apart.0, apart.1, not_mark b bytes (blank_other b blank)) refl in
+    true≢false (rw (← h) none))

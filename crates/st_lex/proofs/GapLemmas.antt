@@ -1,5 +1,6 @@
--- Blanks and comments before a place: gaps grow and shrink by the piece at their front.
-use Rattle.std.proofs.Common.{◌≡◌, ℕ, ◌+◌, ◌-◌, ◌<◌, ◌≤◌, true, false, not, ◌⊎◌, inl, inr, List, [], ◌∷◌, length, drop, get_or, refl, ap, ◌∙◌, subst, arith, IsTrue}
+-- Blanks and comments before an offset: gaps grow and shrink by the piece at their front.
+use Rattle.std.proofs.Common.{◌≡◌, ℕ, ◌+◌, ◌-◌, ◌<◌, ◌≤◌, true, false, not, ◌⊎◌, inl, inr, List, [], ◌∷◌}
+use Rattle.std.proofs.Common.{length, drop, get_or, refl, ap, ◌∙◌, subst, arith, IsTrue}
 use Rattle.std.specs.Prelude.{slice_index}
 use Rattle.std.specs.List.{prefix_len}
 use Rattle.std.proofs.lemmas.Bool.{true≢false, false≢true, not-true, and_parts, eqb-true, cases_lt}
@@ -10,13 +11,14 @@ use Rattle.st_lex.specs.Tokens.{InComment, IsGap}
 use Rattle.st_lex.proofs.PieceLemmas.{GapForm, Solid}
 
 -- a byte of the rest of a text
-pub byte_at : (text : List ℕ) (place k : ℕ) → place ≤ k → slice_index (drop place text) (k - place) ≡ slice_index text k
-byte_at text place k below =
-    let e : place + (k - place) ≡ k = omega arith in
-    get_or-drop place text (k - place) 0 ∙ ap (λ n. get_or text n 0) e
+pub byte_at : (text : List ℕ) (offset k : ℕ) → offset ≤ k → slice_index (drop offset text) (k - offset) ≡ slice_index text k
+byte_at text offset k below =
+    let e : offset + (k - offset) ≡ k = omega arith in
+    get_or-drop offset text (k - offset) 0 ∙ ap (λ n. get_or text n 0) e
 
-pub first_at : (text : List ℕ) (place : ℕ) → slice_index (drop place text) 0 ≡ slice_index text place
-first_at text place = let e : place + 0 ≡ place = omega arith in get_or-drop place text 0 0 ∙ ap (λ n. get_or text n 0) e
+-- the first byte of the rest of a text
+pub first_at : (text : List ℕ) (offset : ℕ) → slice_index (drop offset text) 0 ≡ slice_index text offset
+first_at text offset = let e : offset + 0 ≡ offset = omega arith in get_or-drop offset text 0 0 ∙ ap (λ n. get_or text n 0) e
 
 -- a comment does not begin with a blank
 no_blank_opens : (z : List ℕ) → opens_comment z ≡ true → is_blank (slice_index z 0) ≡ true → ⊥
@@ -27,8 +29,8 @@ no_blank_opens (a ∷ b ∷ z) opens blank =
     false≢true (subst (λ x. is_blank x ≡ true) slash blank)
 
 -- a comment that began later began earlier, too
-weaker : {text : List ℕ} (from later place : ℕ) → from ≤ later → InComment text later place → InComment text from place
-weaker from later place before c = record {
+weaker : {text : List ℕ} (from later offset : ℕ) → from ≤ later → InComment text later offset → InComment text from offset
+weaker from later offset before c = record {
   start = c.start;
   after = (let after = c.after in omega arith);
   before = c.before;
@@ -37,35 +39,38 @@ weaker from later place before c = record {
 }
 
 -- the bytes of a comment at the front
-in_run : (text : List ℕ) (place len k : ℕ) → len ≡ prefix_len is_comment_byte (drop place text) → place ≤ k → k < place + len → is_newline (slice_index text k) ≡ false
-in_run text place len k run from below =
-    let within : k - place < prefix_len is_comment_byte (drop place text) = omega arith in
-    let passes = prefix_len_passes is_comment_byte (drop place text) (k - place) 0 within in
-    subst (λ b. is_newline b ≡ false) (byte_at text place k from) (not-true (is_newline (slice_index (drop place text) (k - place))) passes)
+in_run : (text : List ℕ) (offset len k : ℕ) → len ≡ prefix_len is_comment_byte (drop offset text) → offset ≤ k → k < offset + len
+    → is_newline (slice_index text k) ≡ false
+in_run text offset len k run from below =
+    let within : k - offset < prefix_len is_comment_byte (drop offset text) = omega arith in
+    let passes = prefix_len_passes is_comment_byte (drop offset text) (k - offset) 0 within in
+    subst (λ b. is_newline b ≡ false) (byte_at text offset k from) (not-true (is_newline (slice_index (drop offset text) (k - offset))) passes)
 
 -- the newline that ends it
-after_run : (text : List ℕ) (place len : ℕ) → len ≡ prefix_len is_comment_byte (drop place text) → place + len < length text → is_newline (slice_index text (place + len)) ≡ true
-after_run text place len run within =
-    let short : prefix_len is_comment_byte (drop place text) < length (drop place text) = omega (arith, length-drop place text) in
-    let stops = prefix_len_stops is_comment_byte (drop place text) 0 short in
-    let here : slice_index (drop place text) (prefix_len is_comment_byte (drop place text)) ≡ slice_index text (place + len) =
-    (let e : prefix_len is_comment_byte (drop place text) ≡ place + len - place = omega arith in
-    ap (λ n. get_or (drop place text) n 0) e ∙ byte_at text place (place + len) (omega arith)) in
-    let ends : is_comment_byte (slice_index text (place + len)) ≡ false = subst (λ b. is_comment_byte b ≡ false) here stops in
-    newline (slice_index text (place + len)) ends
+after_run : (text : List ℕ) (offset len : ℕ) → len ≡ prefix_len is_comment_byte (drop offset text) → offset + len < length text
+    → is_newline (slice_index text (offset + len)) ≡ true
+after_run text offset len run within =
+    let short : prefix_len is_comment_byte (drop offset text) < length (drop offset text) = omega (arith, length-drop offset text) in
+    let stops = prefix_len_stops is_comment_byte (drop offset text) 0 short in
+    let here : slice_index (drop offset text) (prefix_len is_comment_byte (drop offset text)) ≡ slice_index text (offset + len) =
+    (let e : prefix_len is_comment_byte (drop offset text) ≡ offset + len - offset = omega arith in
+    ap (λ n. get_or (drop offset text) n 0) e ∙ byte_at text offset (offset + len) (omega arith)) in
+    let ends : is_comment_byte (slice_index text (offset + len)) ≡ false = subst (λ b. is_comment_byte b ≡ false) here stops in
+    newline (slice_index text (offset + len)) ends
   where
     newline : (b : ℕ) → is_comment_byte b ≡ false → is_newline b ≡ true
     newline b h = elim (is_newline b) as (λ t. not t ≡ false → t ≡ true) [ true ↦ λ e. refl | false ↦ λ e. absurd (true≢false e) ] h
 
 -- no gap
-pub gap_none : (text : List ℕ) (place : ℕ) → place ≤ length text → (place < length text → opens_comment (drop place text) ≡ false) → IsGap text place place
-gap_none text place within closed = record {
+pub gap_none : (text : List ℕ) (offset : ℕ) → offset ≤ length text
+    → (offset < length text → opens_comment (drop offset text) ≡ false) → IsGap text offset offset
+gap_none text offset within closed = record {
   forward = omega arith;
   within = within;
   filled = λ k from below. absurd (omega arith);
   closed = λ inside c.
       (let after = c.after in let before = c.before in
-      let e : c.start ≡ place = omega arith in
+      let e : c.start ≡ offset = omega arith in
       true≢false (rw (← c.opens) (rw e (closed inside))));
 }
 
@@ -88,29 +93,32 @@ gap_ends text from to solid gap = stop (cases_lt from to)
 
 module _ (text : List ℕ) (from len to : ℕ) (some : 1 ≤ len) (within : from + len ≤ length text) where
   -- a comment that began at the front ends there
-  front_comment : GapForm (drop from text) len → (place : ℕ) → from + len ≤ place → place < length text → (c : InComment text from place) → c.start < from + len → ⊥
-  front_comment (inl blank) place beyond inside c early =
+  front_comment : GapForm (drop from text) len → (offset : ℕ) → from + len ≤ offset → offset < length text
+      → (c : InComment text from offset) → c.start < from + len → ⊥
+  front_comment (inl blank) offset beyond inside c early =
       let after = c.after in
       let size = blank.0 in
       let e : c.start ≡ from = omega arith in
       no_blank_opens (drop from text) (subst (λ s. opens_comment (drop s text) ≡ true) e c.opens) blank.1
-  front_comment (inr comment) place beyond inside c early =
+  front_comment (inr comment) offset beyond inside c early =
       true≢false (rw (← after_run text from len comment.0 (omega arith)) (c.open_still (from + len) (omega arith) beyond))
 
-  later : GapForm (drop from text) len → (place : ℕ) → from + len ≤ place → place < length text → InComment text from place → InComment text (from + len) place
-  later form place beyond inside c = split (cases_lt c.start (from + len))
+  later : GapForm (drop from text) len → (offset : ℕ) → from + len ≤ offset → offset < length text → InComment text from offset
+      → InComment text (from + len) offset
+  later form offset beyond inside c = split (cases_lt c.start (from + len))
     where
-      split : (c.start < from + len) ⊎ (from + len ≤ c.start) → InComment text (from + len) place
-      split (inl early) = absurd (front_comment form place beyond inside c early)
+      split : (c.start < from + len) ⊎ (from + len ≤ c.start) → InComment text (from + len) offset
+      split (inl early) = absurd (front_comment form offset beyond inside c early)
       split (inr late) = record { start = c.start; after = late; before = c.before; opens = c.opens; open_still = c.open_still }
 
   -- the bytes of the front
-  front_filled : GapForm (drop from text) len → (place : ℕ) → from ≤ place → place < from + len → IsTrue (is_blank (slice_index text place)) ⊎ InComment text from place
-  front_filled (inl blank) place begun below =
+  front_filled : GapForm (drop from text) len → (offset : ℕ) → from ≤ offset → offset < from + len
+      → IsTrue (is_blank (slice_index text offset)) ⊎ InComment text from offset
+  front_filled (inl blank) offset begun below =
       let size = blank.0 in
-      let e : from ≡ place = omega arith in
+      let e : from ≡ offset = omega arith in
       inl (subst (λ p. is_blank (slice_index text p) ≡ true) e (rw (← first_at text from) blank.1))
-  front_filled (inr comment) place begun below = inr (record {
+  front_filled (inr comment) offset begun below = inr (record {
     start = from;
     after = omega arith;
     before = begun;
@@ -122,19 +130,21 @@ module _ (text : List ℕ) (from len to : ℕ) (some : 1 ≤ len) (within : from
   gap_onto form gap = record {
     forward = (let forward = gap.forward in omega arith);
     within = gap.within;
-    filled = λ place begun below. by_place place begun below (cases_lt place (from + len));
+    filled = λ offset begun below. by_place offset begun below (cases_lt offset (from + len));
     closed = λ inside c. gap.closed inside (later form to gap.forward inside c);
   }
     where
-      by_place : (place : ℕ) → from ≤ place → place < to → (place < from + len) ⊎ (from + len ≤ place) → IsTrue (is_blank (slice_index text place)) ⊎ InComment text from place
-      by_place place begun below (inl early) = front_filled form place begun early
-      by_place place begun below (inr late) = elim (gap.filled place late below) [
+      by_place : (offset : ℕ) → from ≤ offset → offset < to → (offset < from + len) ⊎ (from + len ≤ offset)
+          → IsTrue (is_blank (slice_index text offset)) ⊎ InComment text from offset
+      by_place offset begun below (inl early) = front_filled form offset begun early
+      by_place offset begun below (inr late) = elim (gap.filled offset late below) [
         | inl blank ↦ inl blank
-        | inr c ↦ inr (weaker from (from + len) place (omega arith) c)
+        | inr c ↦ inr (weaker from (from + len) offset (omega arith) c)
       ]
 
   -- the gap goes on past the front
-  reaches : GapForm (drop from text) len → IsGap text from to → (to < length text → is_blank (slice_index text to) ≡ false) → from + len ≤ to
+  reaches : GapForm (drop from text) len → IsGap text from to → (to < length text → is_blank (slice_index text to) ≡ false)
+      → from + len ≤ to
   reaches form gap begins = by_end (cases_lt to (from + len))
     where
       early : to < from + len → IsTrue (is_blank (slice_index text to)) ⊎ InComment text from to → ⊥
@@ -145,13 +155,14 @@ module _ (text : List ℕ) (from len to : ℕ) (some : 1 ≤ len) (within : from
       by_end (inl short) = absurd (early short (front_filled form to gap.forward short))
       by_end (inr enough) = enough
 
-  pub gap_off : GapForm (drop from text) len → IsGap text from to → (to < length text → is_blank (slice_index text to) ≡ false) → IsGap text (from + len) to
+  pub gap_off : GapForm (drop from text) len → IsGap text from to → (to < length text → is_blank (slice_index text to) ≡ false)
+      → IsGap text (from + len) to
   gap_off form gap begins = record {
     forward = reaches form gap begins;
     within = gap.within;
-    filled = λ place begun below. (elim (gap.filled place (omega arith) below) [
+    filled = λ offset begun below. (elim (gap.filled offset (omega arith) below) [
       | inl blank ↦ inl blank
-      | inr c ↦ inr (later form place begun (let within = gap.within in omega arith) c)
+      | inr c ↦ inr (later form offset begun (let within = gap.within in omega arith) c)
     ]);
     closed = λ inside c. gap.closed inside (weaker from (from + len) to (omega arith) c);
   }

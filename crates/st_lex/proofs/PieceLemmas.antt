@@ -7,17 +7,14 @@ use Rattle.std.proofs.lemmas.Bool.{true≢false, and_parts, and_from, leb-true, 
 use Rattle.std.proofs.lemmas.Bool.Decides.{nat_tests}
 use Rattle.std.proofs.lemmas.List.Sums.{prefix_len-le-length}
 use Rattle.std.proofs.lemmas.List.Folds.{length-prefix_len}
-use Rattle.st_lex.specs.declared.kinds.TokenKind.{TokenKind}
-use Rattle.st_lex.specs.declared.kinds.TokenKind.TheVariants as kind
-use Rattle.st_lex.specs.declared.faults.Fault.{Fault}
-use Rattle.st_lex.specs.declared.faults.Fault.TheVariants as fault
-use Rattle.st_lex.specs.declared.pieces.Piece.{Piece}
-use Rattle.st_lex.specs.declared.pieces.Piece.TheVariants as piece
-use Rattle.st_lex.specs.declared.limits.TheConstants.{LARGEST_NUMBER}
+use Rattle.st_lex.specs.Types.{TokenKind, Fault, Piece, LARGEST_NUMBER}
+use Rattle.st_lex.specs.Types.fault
+use Rattle.st_lex.specs.Types.kind
+use Rattle.st_lex.specs.Types.piece
 use Rattle.st_lex.specs.Bytes.{is_newline, is_blank, is_letter, is_digit, is_name_byte, is_comment_byte, opens_comment}
 use Rattle.st_lex.specs.Spellings.{is_name, is_keyword, is_number, decimal, is_single_mark, is_double_mark, is_mark, is_spelling, HasForm}
 use Rattle.st_lex.specs.Reading.{front_piece, token_piece, word_piece, number_piece, mark_piece}
-use Rattle.st_lex.proofs.Runs.{chosen, no, run_passes, run_longest, all_weaker}
+use Rattle.st_lex.proofs.Runs.{chosen, false_where_not_true, run_passes, run_longest, all_weaker}
 use Rattle.st_lex.proofs.Tables.{is_other, single_no, double_no, second_no}
 
 -- ---- spellings by their first byte
@@ -38,7 +35,8 @@ no_mark b (c ∷ z) (suc (suc zero)) h = double_no b c h
 no_mark b (c ∷ []) (suc (suc (suc n))) h = double_no b c h
 no_mark b (c ∷ d ∷ z) (suc (suc (suc n))) h = refl
 
-no_spelling : (bytes : List ℕ) → is_name bytes ≡ false → is_number bytes ≡ false → is_mark bytes ≡ false → is_spelling bytes ≡ false
+no_spelling : (bytes : List ℕ) → is_name bytes ≡ false → is_number bytes ≡ false → is_mark bytes ≡ false
+    → is_spelling bytes ≡ false
 unfolding is_spelling
 no_spelling bytes a b c = rw (a, b, c) refl
 
@@ -55,12 +53,15 @@ name_flat b h = grind (arith, nat_tests)
 digit_flat : (b : ℕ) → is_digit b ≡ true → is_comment_byte b ≡ true
 digit_flat b h = grind (arith, nat_tests)
 
+-- a letter stands in no mark
 pub letter_other : (b : ℕ) → is_letter b ≡ true → is_other b ≡ true
 letter_other b h = rw h refl
 
+-- a digit stands in no mark
 pub digit_other : (b : ℕ) → is_digit b ≡ true → is_other b ≡ true
 digit_other b h = rw ((digit_apart b h).0, h) refl
 
+-- a blank stands in no mark
 pub blank_other : (b : ℕ) → is_blank b ≡ true → is_other b ≡ true
 blank_other b h = grind (arith, nat_tests)
 
@@ -80,10 +81,12 @@ pub record Stands (z : List ℕ) (len : ℕ) : Type 0 where
 abbrev pub GapForm : List ℕ → ℕ → Type 0
 GapForm z len = ((len ≡ 1) × (is_blank (slice_index z 0) ≡ true)) ⊎ ((len ≡ prefix_len is_comment_byte z) × (opens_comment z ≡ true))
 
+-- so many bytes at the front are a token of the kind, and no more are spelled as one
 pub record TokenForm (z : List ℕ) (kind : TokenKind) (len : ℕ) : Type 0 where
   pub form : HasForm kind (take len z)
   pub longest : NoLonger z len
 
+-- a number above the largest stands at the front
 pub record LongForm (z : List ℕ) : Type 0 where
   pub len : ℕ
   pub some : 1 ≤ len
@@ -97,10 +100,12 @@ pub record Solid (z : List ℕ) : Type 0 where
   pub no_blank : is_blank (slice_index z 0) ≡ false
   pub no_comment : opens_comment z ≡ false
 
+-- no token stands at the front, for this fault
 abbrev pub WrongForm : List ℕ → Fault → Type 0
 WrongForm z fault.BadByte = NoLonger z 0
 WrongForm z fault.LongNumber = LongForm z
 
+-- what a piece says of the front of a text
 unfoldable pub Means : List ℕ → Piece → Type 0
 Means z piece.Newline = is_newline (slice_index z 0) ≡ true
 Means z (piece.Gap len) = Stands z len × GapForm z len
@@ -112,7 +117,8 @@ Means z (piece.Wrong fault) = WrongForm z fault × Solid z
 run_some : (p : ℕ → Bool) (b : ℕ) (z : List ℕ) → p b ≡ true → 1 ≤ prefix_len p (b ∷ z)
 run_some p b z h = rw h (omega arith)
 
-run_stands : (p : ℕ → Bool) → ((x : ℕ) → p x ≡ true → is_comment_byte x ≡ true) → (b : ℕ) (z : List ℕ) → p b ≡ true → Stands (b ∷ z) (prefix_len p (b ∷ z))
+run_stands : (p : ℕ → Bool) → ((x : ℕ) → p x ≡ true → is_comment_byte x ≡ true) → (b : ℕ) (z : List ℕ) → p b ≡ true
+    → Stands (b ∷ z) (prefix_len p (b ∷ z))
 run_stands p flat b z h = record {
   some = run_some p b z h;
   within = prefix_len-le-length p (b ∷ z);
@@ -120,7 +126,8 @@ run_stands p flat b z h = record {
 }
 
 -- a run is spelled by its test, and a longer slice is not
-run_first : (p : ℕ → Bool) (b : ℕ) (z : List ℕ) → p b ≡ true → (n : ℕ) × (prefix_len p (b ∷ z) ≡ suc n) × (list_all p (take n z) ≡ true)
+run_first : (p : ℕ → Bool) (b : ℕ) (z : List ℕ) → p b ≡ true
+    → (n : ℕ) × (prefix_len p (b ∷ z) ≡ suc n) × (list_all p (take n z) ≡ true)
 run_first p b z h =
     let e : prefix_len p (b ∷ z) ≡ suc (prefix_len p z) = rw h (one-add (prefix_len p z)) in
     (prefix_len p z, e, run_passes p z)
@@ -136,14 +143,15 @@ name_spelled b z h =
 name_longest : (b : ℕ) (z : List ℕ) → is_letter b ≡ true → NoLonger (b ∷ z) (prefix_len is_name_byte (b ∷ z))
 name_longest b z h zero longer within = absurd (omega arith)
 name_longest b z h (suc more) longer within =
-    let no_run : is_name (b ∷ take more z) ≡ false = no (is_name (b ∷ take more z)) (λ named.
+    let no_run : is_name (b ∷ take more z) ≡ false = false_where_not_true (is_name (b ∷ take more z)) (λ named.
     let parts = and_parts (is_letter b) (list_all is_name_byte (take more z)) named in
     let passes = and_from (is_name_byte b) (list_all is_name_byte (take more z)) (letter_continues b h) parts.1 in
     let bound : suc more ≤ prefix_len is_name_byte (b ∷ z) = run_longest is_name_byte (b ∷ z) (suc more) within passes in
     omega arith) in
     no_spelling (b ∷ take more z) no_run (no_number b z (suc more) (letter_apart b h).0) (no_mark b z (suc more) (letter_other b h))
 
-word_means : (b : ℕ) (z : List ℕ) → Solid (b ∷ z) → is_letter b ≡ true → Means (b ∷ z) (word_piece (take (prefix_len is_name_byte (b ∷ z)) (b ∷ z)))
+word_means : (b : ℕ) (z : List ℕ) → Solid (b ∷ z) → is_letter b ≡ true
+    → Means (b ∷ z) (word_piece (take (prefix_len is_name_byte (b ∷ z)) (b ∷ z)))
 unfolding Means
 word_means b z solid h =
     let run = prefix_len is_name_byte (b ∷ z) in
@@ -169,12 +177,13 @@ number_spelled b z h =
 number_longest : (b : ℕ) (z : List ℕ) → is_digit b ≡ true → NoLonger (b ∷ z) (prefix_len is_digit (b ∷ z))
 number_longest b z h zero longer within = absurd (omega arith)
 number_longest b z h (suc more) longer within =
-    let no_run : is_number (b ∷ take more z) ≡ false = no (is_number (b ∷ take more z)) (λ passes.
+    let no_run : is_number (b ∷ take more z) ≡ false = false_where_not_true (is_number (b ∷ take more z)) (λ passes.
     let bound : suc more ≤ prefix_len is_digit (b ∷ z) = run_longest is_digit (b ∷ z) (suc more) within passes in
     omega arith) in
     no_spelling (b ∷ take more z) (no_name b z (suc more) (digit_apart b h).0) no_run (no_mark b z (suc more) (digit_other b h))
 
-number_means : (b : ℕ) (z : List ℕ) → Solid (b ∷ z) → is_digit b ≡ true → Means (b ∷ z) (number_piece (take (prefix_len is_digit (b ∷ z)) (b ∷ z)))
+number_means : (b : ℕ) (z : List ℕ) → Solid (b ∷ z) → is_digit b ≡ true
+    → Means (b ∷ z) (number_piece (take (prefix_len is_digit (b ∷ z)) (b ∷ z)))
 unfolding Means
 number_means b z solid h =
     let run = prefix_len is_digit (b ∷ z) in
@@ -182,7 +191,8 @@ number_means b z solid h =
     let len : length digits ≡ run = length-prefix_len is_digit (b ∷ z) in
     let spelled = number_spelled b z h in
     let stands = run_stands is_digit digit_flat b z h in
-    rw len (chosen (Means (b ∷ z)) (nat_le (decimal digits) LARGEST_NUMBER) (piece.Found (kind.Number (pos (decimal digits))) run) (piece.Wrong fault.LongNumber)
+    rw len (chosen (Means (b ∷ z)) (nat_le (decimal digits) LARGEST_NUMBER) (piece.Found (kind.Number (pos (decimal digits))) run)
+    (piece.Wrong fault.LongNumber)
     (λ e. (stands, record { form = (spelled, refl, leb-true (decimal digits) LARGEST_NUMBER e); longest = number_longest b z h }, solid))
     (λ e. (
       record {
@@ -202,7 +212,8 @@ number_means b z solid h =
 abbrev pub IsMarkLike : ℕ → Type 0
 IsMarkLike b = (is_letter b ≡ false) × (is_digit b ≡ false)
 
-mark_longest : (b : ℕ) (z : List ℕ) (n : ℕ) → is_letter b ≡ false → is_digit b ≡ false → is_mark (take n (b ∷ z)) ≡ false → is_spelling (take n (b ∷ z)) ≡ false
+mark_longest : (b : ℕ) (z : List ℕ) (n : ℕ) → is_letter b ≡ false → is_digit b ≡ false → is_mark (take n (b ∷ z)) ≡ false
+    → is_spelling (take n (b ∷ z)) ≡ false
 mark_longest b z n letter digit mark = no_spelling (take n (b ∷ z)) (no_name b z n letter) (no_number b z n digit) mark
 
 -- no mark is longer than two bytes
@@ -214,17 +225,21 @@ no_long_mark b [] (suc (suc (suc n))) more within = absurd (omega arith)
 no_long_mark b (c ∷ []) (suc (suc (suc n))) more within = absurd (omega arith)
 no_long_mark b (c ∷ d ∷ z) (suc (suc (suc n))) more within = refl
 
-no_two : (b c : ℕ) (z : List ℕ) (n : ℕ) → is_double_mark b c ≡ false → 1 < n → n ≤ length (b ∷ c ∷ z) → is_mark (take n (b ∷ c ∷ z)) ≡ false
+no_two : (b c : ℕ) (z : List ℕ) (n : ℕ) → is_double_mark b c ≡ false → 1 < n → n ≤ length (b ∷ c ∷ z)
+    → is_mark (take n (b ∷ c ∷ z)) ≡ false
 no_two b c z zero pair more within = absurd (omega arith)
 no_two b c z (suc zero) pair more within = absurd (omega arith)
 no_two b c z (suc (suc zero)) pair more within = pair
 no_two b c z (suc (suc (suc n))) pair more within = no_long_mark b (c ∷ z) (suc (suc (suc n))) (omega arith) within
 
-none_at_all : (b : ℕ) (z : List ℕ) (n : ℕ) → is_single_mark b ≡ false → ((m : ℕ) → 1 < m → m ≤ length (b ∷ z) → is_mark (take m (b ∷ z)) ≡ false) → n ≤ length (b ∷ z) → is_mark (take n (b ∷ z)) ≡ false
+none_at_all : (b : ℕ) (z : List ℕ) (n : ℕ) → is_single_mark b ≡ false
+    → ((m : ℕ) → 1 < m → m ≤ length (b ∷ z) → is_mark (take m (b ∷ z)) ≡ false) → n ≤ length (b ∷ z)
+    → is_mark (take n (b ∷ z)) ≡ false
 none_at_all b z zero single longer within = refl
 none_at_all b z (suc zero) single longer within = single
 none_at_all b z (suc (suc n)) single longer within = longer (suc (suc n)) (omega arith) within
 
+-- a newline is a blank
 pub newline_blank : (b : ℕ) → is_newline b ≡ true → is_blank b ≡ true
 newline_blank b h = grind (arith, nat_tests)
 
@@ -235,7 +250,7 @@ single_flat b h = elim (is_newline b) as (λ t. is_newline b ≡ t → not t ≡
 ] refl
 
 comment_byte : (b : ℕ) → (is_newline b ≡ true → ⊥) → is_comment_byte b ≡ true
-comment_byte b h = rw (no (is_newline b) h) refl
+comment_byte b h = rw (false_where_not_true (is_newline b) h) refl
 
 double_flat : (a b : ℕ) → is_double_mark a b ≡ true → (is_comment_byte a ≡ true) × (is_comment_byte b ≡ true)
 double_flat a b h = (
@@ -246,7 +261,9 @@ double_flat a b h = (
 one_stands : (b : ℕ) (z : List ℕ) → is_comment_byte b ≡ true → Stands (b ∷ z) 1
 one_stands b z h = record { some = omega arith; within = omega arith; flat = rw h refl }
 
-single_means : (b : ℕ) (z : List ℕ) → Solid (b ∷ z) → IsMarkLike b → ((m : ℕ) → 1 < m → m ≤ length (b ∷ z) → is_mark (take m (b ∷ z)) ≡ false) → Means (b ∷ z) (if is_single_mark b then piece.Found kind.Mark 1 else piece.Wrong fault.BadByte)
+single_means : (b : ℕ) (z : List ℕ) → Solid (b ∷ z) → IsMarkLike b
+    → ((m : ℕ) → 1 < m → m ≤ length (b ∷ z) → is_mark (take m (b ∷ z)) ≡ false)
+    → Means (b ∷ z) (if is_single_mark b then piece.Found kind.Mark 1 else piece.Wrong fault.BadByte)
 unfolding Means
 single_means b z solid like longer = chosen (Means (b ∷ z)) (is_single_mark b) (piece.Found kind.Mark 1) (piece.Wrong fault.BadByte)
     (λ e. (one_stands b z (single_flat b e), record { form = e; longest = λ m more within. mark_longest b z m like.0 like.1 (longer m more within) }, solid))
@@ -255,7 +272,8 @@ single_means b z solid like longer = chosen (Means (b ∷ z)) (is_single_mark b)
 mark_means : (b : ℕ) (z : List ℕ) → Solid (b ∷ z) → IsMarkLike b → Means (b ∷ z) (mark_piece (b ∷ z))
 unfolding Means
 mark_means b [] solid like = single_means b [] solid like (λ m more within. absurd (omega arith))
-mark_means b (c ∷ z) solid like = chosen (Means (b ∷ c ∷ z)) (is_double_mark b c) (piece.Found kind.Mark 2) (if is_single_mark b then piece.Found kind.Mark 1 else piece.Wrong fault.BadByte)
+mark_means b (c ∷ z) solid like = chosen (Means (b ∷ c ∷ z)) (is_double_mark b c) (piece.Found kind.Mark 2)
+    (if is_single_mark b then piece.Found kind.Mark 1 else piece.Wrong fault.BadByte)
     (λ e. let flat = double_flat b c e in (
       record { some = omega arith; within = omega arith; flat = rw (flat.0, flat.1) refl },
       record { form = e; longest = λ m more within. mark_longest b (c ∷ z) m like.0 like.1 (no_long_mark b (c ∷ z) m more within) },

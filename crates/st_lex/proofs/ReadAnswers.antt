@@ -1,26 +1,29 @@
 -- What the call answers, in the words of the definition of tokens.
 use Rattle.std.proofs.Common.{ℕ, List, subst}
 use Rattle.std.specs.Prelude.{Result, Ok, Err, IfOk, IsErrOf}
-use Rattle.st_events.specs.declared.events.Site.{Site}
-use Rattle.st_lex.specs.declared.kinds.Token.{Token}
-use Rattle.st_lex.specs.declared.faults.Fault.TheVariants as fault
-use Rattle.st_lex.specs.declared.faults.LexError.{LexError}
-use Rattle.st_lex.specs.declared.faults.LexError.TheVariants as error
-use Rattle.st_lex.specs.Answers.{StopsAt}
-use Rattle.st_lex.specs.Reading.{Gives, read_tokens}
+use Rattle.st_lex.specs.Types.{Site, Token, LexError}
+use Rattle.st_lex.specs.Types.error
+use Rattle.st_lex.specs.Types.fault
+use Rattle.st_lex.specs.Errors.{StopsAt}
+use Rattle.st_lex.specs.Reading.{GivesRead, read_tokens}
 use Rattle.st_lex.specs.Tokens.{IsTokensOf}
 use Rattle.st_lex.proofs.Exact.{read_is_tokens, read_is_fault}
 
-pub list_is : {X : Type 0} (view : X → List Token) (text : List ℕ) (result : Result X LexError) → Gives view text result (read_tokens text) → IfOk result (λ x. IsTokensOf text (view x))
+pub list_is : {X : Type 0} (view : X → List Token) (text : List ℕ) (result : Result X LexError)
+    → GivesRead view text result (read_tokens text) → IfOk result (λ x. IsTokensOf text (view x))
 list_is view text (Ok x) gives = read_is_tokens text (view x) gives
 list_is view text (Err e) gives = tt
 
-pub bad_byte_is : {X : Type 0} (view : X → List Token) (text : List ℕ) (result : Result X LexError) → Gives view text result (read_tokens text) → (at : Site) → IsErrOf result (error.BadByte at) → StopsAt text fault.BadByte at
+pub bad_byte_is : {X : Type 0} (view : X → List Token) (text : List ℕ) (result : Result X LexError)
+    → GivesRead view text result (read_tokens text) → (at : Site) → IsErrOf result (error.BadByte at)
+    → StopsAt text fault.BadByte at
 bad_byte_is view text result gives at is =
-    let told = subst (λ r. Gives view text r (read_tokens text)) is gives in
-    record { place = told.0; first = read_is_fault text told.0 fault.BadByte told.1; site = told.2 }
+    let told = subst (λ r. GivesRead view text r (read_tokens text)) is gives in
+    record { offset = told.0; first = read_is_fault text told.0 fault.BadByte told.1; place = told.2 }
 
-pub long_number_is : {X : Type 0} (view : X → List Token) (text : List ℕ) (result : Result X LexError) → Gives view text result (read_tokens text) → (at : Site) → IsErrOf result (error.LongNumber at) → StopsAt text fault.LongNumber at
+pub long_number_is : {X : Type 0} (view : X → List Token) (text : List ℕ) (result : Result X LexError)
+    → GivesRead view text result (read_tokens text) → (at : Site) → IsErrOf result (error.LongNumber at)
+    → StopsAt text fault.LongNumber at
 long_number_is view text result gives at is =
-    let told = subst (λ r. Gives view text r (read_tokens text)) is gives in
-    record { place = told.0; first = read_is_fault text told.0 fault.LongNumber told.1; site = told.2 }
+    let told = subst (λ r. GivesRead view text r (read_tokens text)) is gives in
+    record { offset = told.0; first = read_is_fault text told.0 fault.LongNumber told.1; place = told.2 }

@@ -9,9 +9,10 @@ pub chosen : {A : Type 0} (P : A → Type 0) (b : Bool) (x y : A) → (b ≡ tru
 chosen P true x y when_true when_false = when_true refl
 chosen P false x y when_true when_false = when_false refl
 
-pub no : (b : Bool) → (b ≡ true → ⊥) → b ≡ false
-no true h = absurd (h refl)
-no false h = refl
+-- what is not true is false
+pub false_where_not_true : (b : Bool) → (b ≡ true → ⊥) → b ≡ false
+false_where_not_true true h = absurd (h refl)
+false_where_not_true false h = refl
 
 -- each element of the run passes
 pub run_passes : {X : Type 0} (p : X → Bool) (xs : List X) → list_all p (take (prefix_len p xs) xs) ≡ true
@@ -23,7 +24,8 @@ run_passes p (x ∷ xs) =
     ] refl
 
 -- no more elements from the front pass
-pub run_longest : {X : Type 0} (p : X → Bool) (xs : List X) (n : ℕ) → n ≤ length xs → list_all p (take n xs) ≡ true → n ≤ prefix_len p xs
+pub run_longest : {X : Type 0} (p : X → Bool) (xs : List X) (n : ℕ) → n ≤ length xs → list_all p (take n xs) ≡ true
+    → n ≤ prefix_len p xs
 run_longest p xs zero within passes = omega arith
 run_longest p [] (suc n) within passes = absurd (omega arith)
 run_longest p (x ∷ xs) (suc n) within passes =
@@ -32,7 +34,8 @@ run_longest p (x ∷ xs) (suc n) within passes =
     rw parts.0 (omega arith)
 
 -- what passes a test passes a weaker one
-pub all_weaker : {X : Type 0} (p q : X → Bool) → ((x : X) → p x ≡ true → q x ≡ true) → (xs : List X) → list_all p xs ≡ true → list_all q xs ≡ true
+pub all_weaker : {X : Type 0} (p q : X → Bool) → ((x : X) → p x ≡ true → q x ≡ true) → (xs : List X) → list_all p xs ≡ true
+    → list_all q xs ≡ true
 all_weaker p q weaker [] passes = refl
 all_weaker p q weaker (x ∷ xs) passes =
     let parts = and_parts (p x) (list_all p xs) passes in

@@ -14,6 +14,7 @@ is_blank b = b == 9 || b == 10 || b == 13 || b == 32
 abbrev pub is_letter : ℕ → Bool
 is_letter b = is_ascii_alphabetic b || b == 95
 
+-- a decimal digit
 abbrev pub is_digit : ℕ → Bool
 is_digit b = is_ascii_digit b
 

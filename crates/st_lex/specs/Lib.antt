@@ -1,6 +1,7 @@
-pub mod Answers
 pub mod Bytes
+pub mod Errors
+pub mod Places
 pub mod Reading
-pub mod Sites
 pub mod Spellings
 pub mod Tokens
+pub mod Types

@@ -1,33 +1,31 @@
 -- Reading a text from the front, piece by piece. `proofs/Exact.antt` shows that this reads what `Tokens` defines.
 use Rattle.std.specs.Prelude.{◌≡◌, ℕ, zero, suc, ◌+◌, ◌-◌, if◌then◌else◌, nat_le, List, [], ◌∷◌, length, take, slice_index, pos, Result, Ok, Err}
 use Rattle.std.specs.List.{prefix_len}
-use Rattle.st_lex.specs.declared.kinds.Token.{Token}
-use Rattle.st_lex.specs.declared.kinds.TokenKind.{TokenKind}
-use Rattle.st_lex.specs.declared.kinds.TokenKind.TheVariants as kind
-use Rattle.st_lex.specs.declared.faults.Fault.{Fault}
-use Rattle.st_lex.specs.declared.faults.Fault.TheVariants as fault
-use Rattle.st_lex.specs.declared.faults.LexError.{LexError}
-use Rattle.st_lex.specs.declared.faults.LexError.TheVariants as error
-use Rattle.st_lex.specs.declared.limits.TheConstants.{LARGEST_NUMBER}
-use Rattle.st_lex.specs.declared.pieces.Piece.{Piece}
-use Rattle.st_lex.specs.declared.pieces.Piece.TheVariants as piece
+use Rattle.st_lex.specs.Types.{Token, TokenKind, Fault, LexError, Piece, LARGEST_NUMBER}
+use Rattle.st_lex.specs.Types.error
+use Rattle.st_lex.specs.Types.fault
+use Rattle.st_lex.specs.Types.kind
+use Rattle.st_lex.specs.Types.piece
 use Rattle.st_lex.specs.Bytes.{is_newline, is_blank, is_letter, is_digit, is_name_byte, is_comment_byte, opens_comment}
-use Rattle.st_lex.specs.Sites.{site_of}
+use Rattle.st_lex.specs.Places.{place_at}
 use Rattle.st_lex.specs.Spellings.{is_keyword, decimal, is_single_mark, is_double_mark}
 
--- the first place that is no token, with its fault
+-- where the reading stops: the first offset at which no token stands, with its fault
 pub record Stop : Type 0 where
-  pub place : ℕ
+  pub offset : ℕ
   pub fault : Fault
 
+-- the keyword or name of these bytes
 abbrev pub word_piece : List ℕ → Piece
 word_piece bytes = piece.Found (if is_keyword bytes then kind.Key else kind.Word) (length bytes)
 
+-- the number of these digits, or that it is too large
 abbrev pub number_piece : List ℕ → Piece
 number_piece digits =
     if nat_le (decimal digits) LARGEST_NUMBER then piece.Found (kind.Number (pos (decimal digits))) (length digits)
     else piece.Wrong fault.LongNumber
 
+-- the mark at the front, of two bytes where it can be
 abbrev pub mark_piece : List ℕ → Piece
 mark_piece [] = piece.Wrong fault.BadByte
 mark_piece (a ∷ []) = if is_single_mark a then piece.Found kind.Mark 1 else piece.Wrong fault.BadByte
@@ -50,38 +48,42 @@ front_piece z =
     else (if opens_comment z then piece.Gap (prefix_len is_comment_byte z)
     else token_piece z))
 
-abbrev pub token_at : List ℕ → ℕ → TokenKind → ℕ → Token
-token_at text place kind len = record { kind = kind; start = place; end = place + len; site = site_of text place }
+-- the token of a kind, of so many bytes from an offset on
+abbrev pub token_at : (text : List ℕ) (offset : ℕ) (kind : TokenKind) (len : ℕ) → Token
+token_at text offset kind len = record { kind = kind; start = offset; end = offset + len; site = place_at text offset }
 
+-- a token before what is read, if the reading does not stop
 abbrev pub with_first : Token → Result (List Token) Stop → Result (List Token) Stop
 with_first token (Ok tokens) = Ok (token ∷ tokens)
 with_first token (Err stop) = Err stop
 
--- what is read from a place on where the piece stands there, given what is read after so many bytes
+-- what is read from an offset on where the piece stands there, given what is read after so many bytes
 abbrev pub reads_on : List ℕ → ℕ → Piece → (ℕ → Result (List Token) Stop) → Result (List Token) Stop
-reads_on text place piece.Newline after = after 1
-reads_on text place (piece.Gap len) after = after len
-reads_on text place (piece.Found kind len) after = with_first (token_at text place kind len) (after len)
-reads_on text place (piece.Wrong fault) after = Err (record { place = place; fault = fault })
+reads_on text offset piece.Newline after = after 1
+reads_on text offset (piece.Gap len) after = after len
+reads_on text offset (piece.Found kind len) after = with_first (token_at text offset kind len) (after len)
+reads_on text offset (piece.Wrong fault) after = Err (record { offset = offset; fault = fault })
 
--- the tokens of the rest of a text, which begins at a place; the first number counts the bytes of a piece that are left
+-- the tokens of the rest of a text, which begins at an offset; the first number counts the bytes of a piece that are left
 abbrev pub read_rest : List ℕ → ℕ → ℕ → List ℕ → Result (List Token) Stop
-read_rest text left place [] = Ok []
-read_rest text (suc left) place (b ∷ z) = read_rest text left (place + 1) z
-read_rest text zero place (b ∷ z) =
-    reads_on text place (front_piece (b ∷ z)) (λ len. read_rest text (len - 1) (place + 1) z)
+read_rest text left offset [] = Ok []
+read_rest text (suc left) offset (b ∷ z) = read_rest text left (offset + 1) z
+read_rest text zero offset (b ∷ z) =
+    reads_on text offset (front_piece (b ∷ z)) (λ len. read_rest text (len - 1) (offset + 1) z)
 
--- the tokens of a text, or the first place that is no token
+-- the tokens of a text, or where the reading stops
 unfoldable pub read_tokens : List ℕ → Result (List Token) Stop
 read_tokens text = read_rest text 0 0 text
 
 -- an error other than want of memory tells where the reading stopped
 abbrev pub TellsStop : List ℕ → LexError → Result (List Token) Stop → Type 0
 TellsStop text error.Memory read = Unit {0}
-TellsStop text (error.BadByte at) read = (place : ℕ) × (read ≡ Err (record { place = place; fault = fault.BadByte })) × (at ≡ site_of text place)
-TellsStop text (error.LongNumber at) read = (place : ℕ) × (read ≡ Err (record { place = place; fault = fault.LongNumber })) × (at ≡ site_of text place)
+TellsStop text (error.BadByte at) read = (offset : ℕ)
+    × (read ≡ Err (record { offset = offset; fault = fault.BadByte })) × (at ≡ place_at text offset)
+TellsStop text (error.LongNumber at) read = (offset : ℕ)
+    × (read ≡ Err (record { offset = offset; fault = fault.LongNumber })) × (at ≡ place_at text offset)
 
 -- the answer, seen by `view`, is what is read, unless memory ran out
-abbrev pub Gives : {X : Type 0} → (X → List Token) → List ℕ → Result X LexError → Result (List Token) Stop → Type 0
-Gives view text (Ok x) read = read ≡ Ok (view x)
-Gives view text (Err e) read = TellsStop text e read
+abbrev pub GivesRead : {X : Type 0} → (X → List Token) → List ℕ → Result X LexError → Result (List Token) Stop → Type 0
+GivesRead view text (Ok x) read = read ≡ Ok (view x)
+GivesRead view text (Err e) read = TellsStop text e read

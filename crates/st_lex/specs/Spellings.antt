@@ -2,9 +2,7 @@
 use Rattle.std.specs.Prelude.{◌≡◌, ℕ, ◌+◌, ◌-◌, ◌*◌, ◌≤◌, Bool, false, IsTrue, IsFalse, ◌&&◌, ◌||◌, ◌==◌, List, [], ◌∷◌, fold, pos}
 use Rattle.std.specs.List.{list_any, list_all}
 use Rattle.std.specs.Str.{bytes_eq}
-use Rattle.st_lex.specs.declared.kinds.TokenKind.{TokenKind}
-use Rattle.st_lex.specs.declared.kinds.TokenKind.TheVariants.{Word, Key, Number, Mark}
-use Rattle.st_lex.specs.declared.limits.TheConstants.{LARGEST_NUMBER}
+use Rattle.st_lex.specs.Types.{TokenKind, Word, Key, Number, Mark, LARGEST_NUMBER}
 use Rattle.st_lex.specs.declared.words.TheConstants.{KEYWORDS, SINGLE_MARKS, DOUBLE_MARKS}
 use Rattle.st_lex.specs.Bytes.{is_letter, is_digit, is_name_byte}
 
@@ -13,6 +11,7 @@ abbrev pub is_name : List ℕ → Bool
 is_name [] = false
 is_name (b ∷ bs) = is_letter b && list_all is_name_byte bs
 
+-- one of the keywords
 unfoldable pub is_keyword : List ℕ → Bool
 is_keyword bytes = list_any (λ k. bytes_eq k.now bytes) KEYWORDS
 
@@ -25,12 +24,15 @@ is_number (b ∷ bs) = is_digit b && list_all is_digit bs
 abbrev pub decimal : List ℕ → ℕ
 decimal digits = fold (λ value digit. 10 * value + (digit - 48)) 0 digits
 
+-- one of the marks of one byte
 unfoldable pub is_single_mark : ℕ → Bool
 is_single_mark b = list_any (λ m. m == b) SINGLE_MARKS
 
+-- one of the marks of two bytes
 unfoldable pub is_double_mark : ℕ → ℕ → Bool
 is_double_mark a b = list_any (λ m. bytes_eq m (a ∷ b ∷ [])) DOUBLE_MARKS
 
+-- a mark, of one byte or two
 abbrev pub is_mark : List ℕ → Bool
 is_mark [] = false
 is_mark (a ∷ []) = is_single_mark a

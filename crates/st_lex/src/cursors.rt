@@ -1,62 +1,62 @@
-//! A place in a text together with its site.
+//! Where the reading stands in a text.
 ghost use Rattle.std.specs.Prelude.{◌≡◌, ◌+◌, ◌<◌, ◌^◌};
 
 use crate::kinds::{Token, TokenKind};
 use st_events::Site;
 
-/// A place in a text, and its site.
+/// An offset in a text, with its place.
 #[derive(Clone, Copy, Debug)]
 pub struct Cursor {
     /// How many bytes stand before it.
-    pub place: usize,
+    pub offset: usize,
     /// Its line and column.
-    pub site: Site,
+    pub place: Site,
 }
 
 impl Cursor {
-    /// The first place.
+    /// The start of a text: offset 0, line 1, column 1.
     pub fn start() -> Cursor
-        ensures { result ≡ record { place = 0; site = record { line = 1; column = 1 } } }
+        ensures { result ≡ record { offset = 0; place = record { line = 1; column = 1 } } }
     {
         Cursor {
-            place: 0,
-            site: Site { line: 1, column: 1 },
+            offset: 0,
+            place: Site { line: 1, column: 1 },
         }
     }
 
     /// Goes past the byte that ends the line.
     pub fn next_line(&mut self)
-        requires place { self.old.place + 1 < 2 ^ 32 }
-        requires line { self.old.site.line + 1 < 2 ^ 32 }
-        ensures { self.new ≡ record { place = self.old.place + 1; site = record { line = self.old.site.line + 1; column = 1 } } }
+        requires offset { self.old.offset + 1 < 2 ^ 32 }
+        requires line { self.old.place.line + 1 < 2 ^ 32 }
+        ensures { self.new ≡ record { offset = self.old.offset + 1; place = record { line = self.old.place.line + 1; column = 1 } } }
     {
-        self.place += 1;
-        self.site = Site {
-            line: self.site.line + 1,
+        self.offset += 1;
+        self.place = Site {
+            line: self.place.line + 1,
             column: 1,
         };
     }
 
     /// Goes past bytes of the line.
     pub fn skip(&mut self, len: usize)
-        requires place { self.old.place + len < 2 ^ 32 }
-        requires column { self.old.site.column + len < 2 ^ 32 }
-        ensures { self.new ≡ record { place = self.old.place + len; site = record { line = self.old.site.line; column = self.old.site.column + len } } }
+        requires offset { self.old.offset + len < 2 ^ 32 }
+        requires column { self.old.place.column + len < 2 ^ 32 }
+        ensures { self.new ≡ record { offset = self.old.offset + len; place = record { line = self.old.place.line; column = self.old.place.column + len } } }
     {
-        self.place += len;
-        self.site.column += len as u32;
+        self.offset += len;
+        self.place.column += len as u32;
     }
 
     /// The token of so many bytes that begins here.
     pub fn token(&self, kind: TokenKind, len: usize) -> Token
-        requires { self.now.place + len < 2 ^ 32 }
-        ensures { result ≡ record { kind = kind; start = self.now.place; end = self.now.place + len; site = self.now.site } }
+        requires { self.now.offset + len < 2 ^ 32 }
+        ensures { result ≡ record { kind = kind; start = self.now.offset; end = self.now.offset + len; site = self.now.place } }
     {
         Token {
             kind,
-            start: self.place as u32,
-            end: (self.place + len) as u32,
-            site: self.site,
+            start: self.offset as u32,
+            end: (self.offset + len) as u32,
+            site: self.place,
         }
     }
 }

@@ -1,4 +1,4 @@
-//! A token: its kind, its bytes' places and its site.
+//! A token: its kind, where its bytes begin and end, and its place.
 
 use st_events::Site;
 
@@ -15,15 +15,15 @@ pub enum TokenKind {
     Mark,
 }
 
-/// A token of a text: the bytes from place `start` up to `end`, places from 0.
+/// A token of a text: the bytes from offset `start` up to `end`. An offset is the number of bytes before it.
 #[derive(Clone, Copy, Debug, PartialEq, Eq)]
 pub struct Token {
     /// What it is.
     pub kind: TokenKind,
-    /// The place of its first byte.
+    /// The offset of its first byte.
     pub start: u32,
-    /// The place after its last byte, above `start`.
+    /// The offset after its last byte, above `start`.
     pub end: u32,
-    /// The line and column of its first byte.
+    /// The place of its first byte: line and column, from 1.
     pub site: Site,
 }

@@ -1,13 +1,13 @@
 //! The tokens of a text, in one pass.
 ghost use Rattle.std.specs.Prelude.{◌≡◌, ◌≤◌, ℕ, length, IfOk, IsErrOf};
 ghost use Rattle.st_events.specs.declared.events.Site.{Site};
-ghost use Rattle.st_lex.specs.Answers.{StopsAt};
-ghost use Rattle.st_lex.specs.Reading.{Gives, read_tokens};
+ghost use Rattle.st_lex.specs.Errors.{StopsAt};
+ghost use Rattle.st_lex.specs.Reading.{GivesRead, read_tokens};
 ghost use Rattle.st_lex.specs.Tokens.{IsTokensOf};
-ghost use Rattle.st_lex.specs.declared.faults.Fault.TheVariants as fault;
+ghost use Rattle.st_lex.specs.declared.errors.Fault.TheVariants as fault;
 
 use crate::cursors::Cursor;
-use crate::faults::LexError;
+use crate::errors::LexError;
 use crate::kinds::Token;
 use crate::limits::MOST_SOURCE_BYTES;
 use crate::pieces::{Piece, front_piece};
@@ -15,7 +15,7 @@ use std::alloc::Global;
 
 /// The tokens of a source text of at most `MOST_SOURCE_BYTES` bytes, in order.
 ///
-/// `BadByte` and `LongNumber` tell the first place that is no token: a byte with which none begins, or the first
+/// `BadByte` and `LongNumber` tell the first place at which no token stands: a byte with which none begins, or the first
 /// digit of a number above `LARGEST_NUMBER`. `Memory` comes where memory was refused. Each text has one list of tokens
 /// or one such place, and not both: see `one_reading`.
 pub fn tokens(alloc: Global, text: &[u8]) -> Result<Vec<Token>, LexError>
@@ -30,19 +30,19 @@ pub fn tokens(alloc: Global, text: &[u8]) -> Result<Vec<Token>, LexError>
 /// Reads the text piece by piece. Each byte is looked at a bounded number of times.
 fn read_all(alloc: Global, text: &[u8]) -> Result<Vec<Token>, LexError>
     requires { length text.now ≤ MOST_SOURCE_BYTES }
-    ensures { Gives (λ list. list.items) text.now result (read_tokens text.now) }
+    ensures { GivesRead (λ list. list.items) text.now result (read_tokens text.now) }
 {
     let mut list = Vec::new(alloc);
     let mut cursor = Cursor::start();
-    while cursor.place < text.len() {
-        match front_piece(&text[cursor.place..]) {
+    while cursor.offset < text.len() {
+        match front_piece(&text[cursor.offset..]) {
             Piece::Newline => cursor.next_line(),
             Piece::Gap(len) => cursor.skip(len),
             Piece::Found(kind, len) => {
                 list.push(cursor.token(kind, len))?;
                 cursor.skip(len);
             }
-            Piece::Wrong(fault) => return Err(fault.at(cursor.site)),
+            Piece::Wrong(fault) => return Err(fault.at(cursor.place)),
         }
     }
     Ok(list)

@@ -1,10 +1,10 @@
-//! Cuts a source text into names, keywords, numbers and marks, or tells the first place that is none of these.
+//! Cuts a source text into names, keywords, numbers and marks, or tells the first place at which none of these stands.
 //! The definition of the tokens of a text stands in `specs/Tokens.antt`; `tokens` gives exactly that list.
 #![tactic(auto)]
 
 mod bytes;
 mod cursors;
-mod faults;
+mod errors;
 mod kinds;
 mod laws;
 mod lexer;
@@ -13,7 +13,7 @@ mod numbers;
 mod pieces;
 mod words;
 
-pub use faults::LexError;
+pub use errors::LexError;
 pub use kinds::{Token, TokenKind};
 pub use laws::{neighbours, one_reading};
 pub use lexer::tokens;

@@ -7,7 +7,7 @@ ghost use Rattle.st_lex.specs.Reading as spec;
 ghost use Rattle.st_lex.specs.Spellings as spelling;
 
 use crate::bytes::{is_blank, is_letter, is_name_byte, is_newline};
-use crate::faults::Fault;
+use crate::errors::Fault;
 use crate::kinds::TokenKind;
 use crate::numbers::number_of;
 use crate::words::{DOUBLE_MARKS, KEYWORDS, SINGLE_MARKS};

@@ -92,7 +92,7 @@ fn blanks_and_comments_stand_between(rt: HostRuntime) -> Result<(), Fail> {
 }
 
 #[test]
-fn sites_count_lines_and_bytes(rt: HostRuntime) -> Result<(), Fail> {
+fn places_count_lines_and_bytes(rt: HostRuntime) -> Result<(), Fail> {
     let list = tokens(rt.alloc(), b"a\n\tbc d // e\n\r\n  f")?;
     let wanted = [(1, 1), (2, 2), (2, 5), (4, 3)];
     assert_eq!(rt; list.len(), wanted.len());
@@ -108,35 +108,59 @@ fn sites_count_lines_and_bytes(rt: HostRuntime) -> Result<(), Fail> {
     Ok(())
 }
 
+/// The answer for a bad byte there.
+fn bad_byte(line: u32, column: u32) -> Option<LexError> {
+    Some(LexError::BadByte {
+        at: Site { line, column },
+    })
+}
+
+/// The answer for a long number that begins there.
+fn long_number(line: u32, column: u32) -> Option<LexError> {
+    Some(LexError::LongNumber {
+        at: Site { line, column },
+    })
+}
+
 #[test]
-fn the_first_place_that_is_no_token_is_told(rt: HostRuntime) {
+fn a_bad_byte_is_told_where_it_stands(rt: HostRuntime) {
     let alloc = rt.alloc();
-    let bad = |line, column| Some(LexError::BadByte {
-        at: Site { line, column },
-    });
-    let long = |line, column| Some(LexError::LongNumber {
-        at: Site { line, column },
-    });
-    assert_eq!(rt; tokens(alloc, b"#").err(), bad(1, 1));
-    assert_eq!(rt; tokens(alloc, b"a & b").err(), bad(1, 3));
-    assert_eq!(rt; tokens(alloc, b"a || |b").err(), bad(1, 6));
-    assert_eq!(rt; tokens(alloc, b"//\xff\n\0").err(), bad(2, 1));
-    assert_eq!(rt; tokens(alloc, b"a\xff9223372036854775808").err(), bad(1, 2));
-    assert_eq!(rt; tokens(alloc, b"9223372036854775808").err(), long(1, 1));
+    assert_eq!(rt; tokens(alloc, b"#").err(), bad_byte(1, 1));
+    assert_eq!(rt; tokens(alloc, b"a & b").err(), bad_byte(1, 3));
+    assert_eq!(rt; tokens(alloc, b"a || |b").err(), bad_byte(1, 6));
+    assert_eq!(rt; tokens(alloc, b"//\xff\n\0").err(), bad_byte(2, 1));
     assert_eq!(rt;
-        tokens(alloc, b"thread t { var x: int = 9223372036854775808; }").err(),
-        long(1, 25)
-    );
-    assert_eq!(rt;
-        tokens(alloc, b"1\n 10000000000000000000000 #").err(),
-        long(2, 2)
+        tokens(alloc, b"a\xff9223372036854775808").err(),
+        bad_byte(1, 2)
     );
 }
 
 #[test]
-fn an_error_shows_its_place(rt: HostRuntime) -> Result<(), Fail> {
+fn a_long_number_is_told_at_its_first_digit(rt: HostRuntime) {
     let alloc = rt.alloc();
-    for (text, wanted) in [(b"\n  #", "2:3 bad byte"), (b"\n & ", "2:2 bad byte")] {
+    assert_eq!(rt;
+        tokens(alloc, b"9223372036854775808").err(),
+        long_number(1, 1)
+    );
+    assert_eq!(rt;
+        tokens(alloc, b"thread t { var x: int = 9223372036854775808; }").err(),
+        long_number(1, 25)
+    );
+    assert_eq!(rt;
+        tokens(alloc, b"1\n 10000000000000000000000 #").err(),
+        long_number(2, 2)
+    );
+}
+
+#[test]
+fn an_error_names_its_place_and_its_fault(rt: HostRuntime) -> Result<(), Fail> {
+    let alloc = rt.alloc();
+    let rows: [(&[u8], &str); 3] = [
+        (b"\n  #", "2:3 bad byte"),
+        (b"\n & ", "2:2 bad byte"),
+        (b"x\n\n9223372036854775808", "3:1 long number"),
+    ];
+    for (text, wanted) in rows {
         match tokens(alloc, text) {
             Ok(_) => assert!(rt; false),
             Err(error) => assert_eq!(rt; format!(in alloc; "{error}")?.as_str(), wanted),

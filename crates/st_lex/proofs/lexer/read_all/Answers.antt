@@ -12,15 +12,15 @@ pub loop-cursor-preserved-in-Newline : goal.loop-cursor-preserved-in-Newline
 loop-cursor-preserved-in-Newline c =
     rw c.next_line.ensures (at_newline c.args.text.now c.loop-cursor.list.items c.loop-cursor.cursor c.loop-cursor.invariant c.loop-cursor-test.true c.in-Newline.ensures)
 
-pub skip-requires-clause-place : goal.skip-requires-clause-place
-skip-requires-clause-place c = let fits = gap_fits c.args.text.now c.loop-cursor.cursor.place c.in-Gap.len c.loop-cursor-test.true c.in-Gap.ensures in omega arith
+pub skip-requires-clause-offset : goal.skip-requires-clause-offset
+skip-requires-clause-offset c = let fits = gap_fits c.args.text.now c.loop-cursor.cursor.offset c.in-Gap.len c.loop-cursor-test.true c.in-Gap.ensures in omega arith
 
 pub skip-requires-clause-column : goal.skip-requires-clause-column
-skip-requires-clause-column c = let fits = gap_fits c.args.text.now c.loop-cursor.cursor.place c.in-Gap.len c.loop-cursor-test.true c.in-Gap.ensures in omega arith
+skip-requires-clause-column c = let fits = gap_fits c.args.text.now c.loop-cursor.cursor.offset c.in-Gap.len c.loop-cursor-test.true c.in-Gap.ensures in omega arith
 
 pub loop-cursor-smaller-in-Gap : goal.loop-cursor-smaller-in-Gap
 loop-cursor-smaller-in-Gap c =
-    let fits = gap_fits c.args.text.now c.loop-cursor.cursor.place c.in-Gap.len c.loop-cursor-test.true c.in-Gap.ensures in
+    let fits = gap_fits c.args.text.now c.loop-cursor.cursor.offset c.in-Gap.len c.loop-cursor-test.true c.in-Gap.ensures in
     rw c.skip.ensures (omega arith)
 
 pub loop-cursor-preserved-in-Gap : goal.loop-cursor-preserved-in-Gap
@@ -28,14 +28,14 @@ loop-cursor-preserved-in-Gap c =
     rw c.skip.ensures (at_gap c.args.text.now c.loop-cursor.list.items c.loop-cursor.cursor c.in-Gap.len c.loop-cursor.invariant c.loop-cursor-test.true c.in-Gap.ensures)
 
 pub token-requires : goal.token-requires
-token-requires c = let fits = found_fits c.args.text.now c.loop-cursor.cursor.place c.in-Found.kind c.in-Found.len c.loop-cursor-test.true c.in-Found.ensures in omega arith
+token-requires c = let fits = found_fits c.args.text.now c.loop-cursor.cursor.offset c.in-Found.kind c.in-Found.len c.loop-cursor-test.true c.in-Found.ensures in omega arith
 
 pub skip-requires-in-Found-clause-column : goal.skip-requires-in-Found-clause-column
-skip-requires-in-Found-clause-column c = let fits = found_fits c.args.text.now c.loop-cursor.cursor.place c.in-Found.kind c.in-Found.len c.loop-cursor-test.true c.in-Found.ensures in omega arith
+skip-requires-in-Found-clause-column c = let fits = found_fits c.args.text.now c.loop-cursor.cursor.offset c.in-Found.kind c.in-Found.len c.loop-cursor-test.true c.in-Found.ensures in omega arith
 
 pub loop-cursor-smaller : goal.loop-cursor-smaller
 loop-cursor-smaller c =
-    let fits = found_fits c.args.text.now c.loop-cursor.cursor.place c.in-Found.kind c.in-Found.len c.loop-cursor-test.true c.in-Found.ensures in
+    let fits = found_fits c.args.text.now c.loop-cursor.cursor.offset c.in-Found.kind c.in-Found.len c.loop-cursor-test.true c.in-Found.ensures in
     rw c.skip-in-Found.ensures (omega arith)
 
 pub loop-cursor-preserved : goal.loop-cursor-preserved

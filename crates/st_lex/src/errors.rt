@@ -1,7 +1,7 @@
 //! Why a text has no list of tokens.
 ghost use Rattle.std.specs.Prelude.{◌≡◌};
-ghost use Rattle.st_lex.specs.declared.faults.LexError.TheVariants.{Memory};
-ghost use Rattle.st_lex.specs.Answers.{error_at};
+ghost use Rattle.st_lex.specs.declared.errors.LexError.TheVariants.{Memory};
+ghost use Rattle.st_lex.specs.Errors.{error_at};
 
 use st_events::Site;
 use std::alloc::{AllocError, AllocFailed};
@@ -16,18 +16,18 @@ pub enum LexError {
     /// A byte that is no blank and begins no comment and no token; a single `&` or `|` is one.
     #[error("{line}:{column} bad byte", line = .at.line, column = .at.column)]
     BadByte {
-        /// The site of the byte.
+        /// The place of the byte.
         at: Site,
     },
     /// A number above the largest that a text may name.
     #[error("{line}:{column} long number", line = .at.line, column = .at.column)]
     LongNumber {
-        /// The site of its first digit.
+        /// The place of its first digit.
         at: Site,
     },
 }
 
-/// What is wrong at a place that is no token.
+/// What is wrong where no token stands.
 #[derive(Clone, Copy, Debug, PartialEq, Eq)]
 pub enum Fault {
     /// No token begins with the byte.
@@ -37,13 +37,13 @@ pub enum Fault {
 }
 
 impl Fault {
-    /// The error that tells this fault, at a site.
-    pub fn at(self, site: Site) -> LexError
-        ensures { result ≡ error_at self site }
+    /// The error that tells this fault, at a place.
+    pub fn at(self, place: Site) -> LexError
+        ensures { result ≡ error_at self place }
     {
         match self {
-            Fault::BadByte => LexError::BadByte { at: site },
-            Fault::LongNumber => LexError::LongNumber { at: site },
+            Fault::BadByte => LexError::BadByte { at: place },
+            Fault::LongNumber => LexError::LongNumber { at: place },
         }
     }
 }
