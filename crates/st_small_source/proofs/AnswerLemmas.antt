@@ -1,7 +1,7 @@
 -- The one answer that a text has is its source's program, and there is none where the text is no source.
 use Rattle.std.proofs.Common.{◌≡◌, ℕ, List, map, Option, Some, Result, Ok, Err, sym, ap, ◌∙◌}
 use Rattle.std.specs.Prelude.{IfOk, IsErrOf}
-use Rattle.st_lex.specs.Types.{Fault}
+use Rattle.st_lex.specs.declared.errors.Fault.{Fault}
 use Rattle.st_lex.specs.declared.kinds.Token.{Token}
 use Rattle.st_lex.specs.Tokens.{IsTokensOf, IsFaultOf}
 use Rattle.st_lex.proofs.Exact.{one_list, not_both}
