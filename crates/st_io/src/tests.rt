@@ -79,25 +79,40 @@ fn the_sure_ones_do_not_fail(rt: HostRuntime) -> Result<(), Fail> {
     Ok(())
 }
 
+// Four reads of the system's files: the answer, how many bytes were given, and whether they are a front of the text.
+fn reads_of_the_system(
+    rt: &HostRuntime,
+    held: &str,
+    text: &[u8],
+) -> [(Result<(), FilesFault>, usize, bool); 4] {
+    let mut files = RealFiles::make(rt);
+    [
+        (held, 20_000),
+        (held, 19_999),
+        (held, u32::MAX),
+        ("st_io_test_of_no_file.txt", 20_000),
+    ]
+    .map(|(name, limit)| {
+        let mut into = Vec::new(rt.alloc());
+        let answer = files.read_whole(name, limit, &mut into);
+        (answer, into.len(), text.starts_with(into.as_slice()))
+    })
+}
+
 #[test]
 fn a_file_of_the_system_is_read_to_its_limit(rt: HostRuntime) -> Result<(), Fail> {
-    let alloc = rt.alloc();
     let name = "st_io_test_of_a_long_file.txt";
-    let text = vec![in alloc; 7u8; 20_000]?;
+    let text = vec![in rt.alloc(); 7u8; 20_000]?;
     fs::write(&rt, name, text.as_slice())?;
-    let mut files = RealFiles::make(&rt);
-    for (name, limit, answer, size) in [
-        (name, 20_000, Ok(()), 20_000),
-        (name, 19_999, TOO_LONG, 0),
-        (name, u32::MAX, Ok(()), 20_000),
-        ("st_io_test_of_no_file.txt", 20_000, FAILED, 0),
-    ] {
-        let mut into = Vec::new(alloc);
-        assert_eq!(rt; files.read_whole(name, limit, &mut into), answer);
-        assert_eq!(rt; into.len(), size);
-        assert!(rt; text.as_slice().starts_with(into.as_slice()));
-    }
+    let reads = reads_of_the_system(&rt, name, &text);
+    // Before anything is asserted, so that no file is left behind.
     fs::remove_file(&rt, name)?;
+    assert_eq!(rt; reads, [
+        (Ok(()), 20_000, true),
+        (TOO_LONG, 0, true),
+        (Ok(()), 20_000, true),
+        (FAILED, 0, true),
+    ]);
     Ok(())
 }
 

@@ -1,5 +1,5 @@
 //! The top call, and the same over a text in memory.
-ghost use Rattle.std.specs.Prelude.{◌≡◌, ◌≢◌, ◌⊎◌, ◌↔◌, IsTrue, IsSome, None, IfOk, IfErr, IfSome, IfNone};
+ghost use Rattle.std.specs.Prelude.{◌≡◌, ◌≢◌, ◌≤◌, ◌⊎◌, ◌↔◌, ℕ, List, IsTrue, IsSome, None, IfOk, IfErr, IfSome, IfNone};
 ghost use Rattle.st_io.specs.Counts.{RoseBy};
 ghost use Rattle.st_io.specs.Device.{counts_of};
 ghost use Rattle.st_top.specs.Causes.{HasCause};
@@ -61,6 +61,13 @@ pub fn strobe<R: Threads + Wait + Sync, F: Files, S: Sink, P: Pace + Sync>(
         (counts_of (F.faults files.old) (F.taken files.old))
         (counts_of (F.faults files.new) (F.taken files.new)) result.status
         (S.written out.old) (S.written out.new) (S.faults out.old) (S.faults out.new)) }
+
+    // What is lent: the files tell what they told, and no count fell. With wrong words the files are untouched.
+    ensures told { (file : List ℕ) → F.told files.new file ≡ F.told files.old file }
+    ensures untouched { named_file (texts words.now) ≡ None → files.new ≡ files.old }
+    ensures files_faults { F.faults files.old ≤ F.faults files.new }
+    ensures files_taken { F.taken files.old ≤ F.taken files.new }
+    ensures sink_faults { S.faults out.old ≤ S.faults out.new }
 {
     answer(alloc, words, files, out)
 }
@@ -99,6 +106,11 @@ fn answer<F: Files, S: Sink>(alloc: Global, words: &[String], files: &mut F, out
         (counts_of (F.faults files.old) (F.taken files.old))
         (counts_of (F.faults files.new) (F.taken files.new)) result.status
         (S.written out.old) (S.written out.new) (S.faults out.old) (S.faults out.new)) }
+    ensures told { (file : List ℕ) → F.told files.new file ≡ F.told files.old file }
+    ensures untouched { named_file (texts words.now) ≡ None → files.new ≡ files.old }
+    ensures files_faults { F.faults files.old ≤ F.faults files.new }
+    ensures files_taken { F.taken files.old ≤ F.taken files.new }
+    ensures sink_faults { S.faults out.old ≤ S.faults out.new }
 {
     match run_words(alloc, words, files) {
         Ok(finished) => publish(finished, out),
@@ -113,6 +125,10 @@ fn run_words<F: Files>(alloc: Global, words: &[String], files: &mut F) -> Result
     ensures cause { IfErr result (λ refusal. HasCause (named_file (texts words.now)) (source_of (F.told files.old) (texts words.now))
         (counts_of (F.faults files.old) (F.taken files.old))
         (counts_of (F.faults files.new) (F.taken files.new)) refusal) }
+    ensures told { (file : List ℕ) → F.told files.new file ≡ F.told files.old file }
+    ensures untouched { named_file (texts words.now) ≡ None → files.new ≡ files.old }
+    ensures faults { F.faults files.old ≤ F.faults files.new }
+    ensures taken { F.taken files.old ≤ F.taken files.new }
 {
     match file_named(words) {
         Some(name) => run_file(alloc, files, name),

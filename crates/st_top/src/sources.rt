@@ -1,5 +1,5 @@
 //! From the name of a file to a run of the source in it.
-ghost use Rattle.std.specs.Prelude.{◌≡◌, ◌≤◌, length, IfOk, IfErr, IfSome, Some};
+ghost use Rattle.std.specs.Prelude.{◌≡◌, ◌≤◌, ℕ, List, length, IfOk, IfErr, IfSome, Some};
 ghost use Rattle.st_io.specs.Device.{counts_of};
 ghost use Rattle.st_top.specs.Causes.{HasCause, IsBuildRefusal};
 ghost use Rattle.st_top.specs.Sources.{HasReport};
@@ -27,6 +27,9 @@ fn read_source<F: Files>(alloc: Global, files: &mut F, name: &str) -> Result<Vec
     ensures cause { IfErr result (λ refusal. HasCause (Some name.now) (F.told files.old name.now)
         (counts_of (F.faults files.old) (F.taken files.old))
         (counts_of (F.faults files.new) (F.taken files.new)) refusal) }
+    ensures told { (file : List ℕ) → F.told files.new file ≡ F.told files.old file }
+    ensures faults { F.faults files.old ≤ F.faults files.new }
+    ensures taken { F.taken files.old ≤ F.taken files.new }
 {
     let mut text = Vec::new(alloc);
     match files.read_whole(name, MOST_SOURCE_BYTES as u32, &mut text) {
@@ -57,6 +60,9 @@ pub(crate) fn run_file<F: Files>(
     ensures cause { IfErr result (λ refusal. HasCause (Some name.now) (F.told files.old name.now)
         (counts_of (F.faults files.old) (F.taken files.old))
         (counts_of (F.faults files.new) (F.taken files.new)) refusal) }
+    ensures told { (file : List ℕ) → F.told files.new file ≡ F.told files.old file }
+    ensures faults { F.faults files.old ≤ F.faults files.new }
+    ensures taken { F.taken files.old ≤ F.taken files.new }
 {
     let text = read_source(alloc, files, name)?;
     run_source(alloc, &text)

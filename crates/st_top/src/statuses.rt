@@ -18,3 +18,16 @@ pub const STATUS_WRITE_FAULT: u8 = 6;
 pub const STATUS_NO_MEMORY: u8 = 7;
 /// The status where some check has no answer, and none fails. No run of the small form has it.
 pub const STATUS_UNDECIDED: u8 = 8;
+
+// The numbers of the table in README.md, once more.
+const _: () = prove!(
+    STATUS_HOLDS == 0
+        && STATUS_CHECK_FAILS == 1
+        && STATUS_WORDS == 2
+        && STATUS_SOURCE == 3
+        && STATUS_UNFINISHED == 4
+        && STATUS_READ_FAULT == 5
+        && STATUS_WRITE_FAULT == 6
+        && STATUS_NO_MEMORY == 7
+        && STATUS_UNDECIDED == 8
+);

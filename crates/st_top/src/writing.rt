@@ -19,6 +19,7 @@ pub(crate) fn publish<S: Sink>(finished: Finished, out: &mut S) -> Outcome
     ensures ran { result.ran ≡ Some finished.ran }
     ensures put { IsPut result.status finished.ran (joined finished.report)
         (S.written out.old) (S.written out.new) (S.faults out.old) (S.faults out.new) }
+    ensures faults { S.faults out.old ≤ S.faults out.new }
 {
     match put_lines(out, finished.report.lines()) {
         Ok(()) => Outcome {
@@ -38,6 +39,7 @@ pub fn refuse<S: Sink>(refusal: Refusal, out: &mut S) -> Outcome
     ensures ran { result.ran ≡ None }
     ensures status { result.status ≡ refused_status refusal }
     ensures line { IsLinePut (line_of refusal) (S.written out.old) (S.written out.new) (S.faults out.old) (S.faults out.new) }
+    ensures faults { S.faults out.old ≤ S.faults out.new }
 {
     let _unheard = out.put(refusal.line());
     Outcome {
