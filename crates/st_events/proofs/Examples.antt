@@ -2,16 +2,10 @@
 -- checks, launches, and the events of a thread
 use Rattle.std.proofs.Common.{◌≡◌, ℕ, true, false, List, [], ◌∷◌, Option, Some, None, refl}
 use Rattle.std.specs.Option.{option_map}
-use Rattle.st_events.specs.declared.events.Event.{Event}
-use Rattle.st_events.specs.declared.events.Event.TheVariants.{New, Load, Store, Cas, Launch, Retire}
-use Rattle.st_events.specs.declared.limits.Sizes.{Sizes}
+use Rattle.st_events.specs.Terms.{Event, New, Load, Store, Cas, Launch, Retire, Sizes, ShapeLists, word_at, Launched, world_after, first_world, illegal_reason}
+use Rattle.st_events.specs.Terms.{heap_after, epoch_of, stamp_of, active_checks, needing, kept_rows, lost_pairs, launch_of, own_events, objects_of}
 use Rattle.st_events.specs.declared.reasons.Why.TheVariants.{NoLane, WrongField}
 use Rattle.st_events.specs.declared.shapes.Kind.TheVariants.{Int}
-use Rattle.st_events.specs.Shape.{ShapeLists}
-use Rattle.st_events.specs.Heap.{word_at}
-use Rattle.st_events.specs.World.{Launched, world_after, first_world}
-use Rattle.st_events.specs.Legal.{illegal_reason}
-use Rattle.st_events.specs.History.{heap_after, epoch_of, stamp_of, active_checks, needing, kept_rows, lost_pairs, launch_of, own_events, objects_of}
 
 -- one shared number, a class of one number, and a check without arguments
 abbrev shape : ShapeLists

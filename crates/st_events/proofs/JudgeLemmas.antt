@@ -1,18 +1,12 @@
 -- A relation that looks at a check's launch and at what is lost for it alone is a judge's
 use Rattle.std.proofs.Common.{◌≡◌, ℕ, ◌==◌, Bool, true, List, [], ◌∷◌, ◌++◌, Option, Some, None, refl, sym, subst}
-use Rattle.st_events.specs.declared.events.Args.{Args}
-use Rattle.st_events.specs.declared.events.Event.{Event}
-use Rattle.st_events.specs.declared.events.Event.TheVariants.{Launch}
-use Rattle.st_events.specs.declared.limits.Sizes.{Sizes}
-use Rattle.st_events.specs.declared.verdicts.Verdict.{Verdict}
-use Rattle.st_events.specs.Shape.{ShapeLists, IsWithinLimits}
-use Rattle.st_events.specs.World.{Launched, is_lost}
-use Rattle.st_events.specs.Legal.{IsLegal}
-use Rattle.st_events.specs.History.{has_launch, is_launch_of, launch_of, lost_pairs}
+use Rattle.st_events.specs.Terms.{Args, Event, Launch, Sizes, Verdict, ShapeLists, IsWithinLimits, Launched, is_lost, IsLegal, has_launch, launch_of}
+use Rattle.st_events.specs.Terms.{lost_pairs}
+use Rattle.st_events.specs.History.{is_launch_of}
 use Rattle.st_events.specs.Judge.{IsJudge, IsRightOfLaunch, IsRightByLaunch, AllowsMoreLost}
 use Rattle.st_events.proofs.AmongLemmas.{or_first, or_second, same_number}
-use Rattle.st_events.proofs.ExtendsLemmas.{launch_of-stays, is_lost-stays}
-use Rattle.st_events.proofs.LaunchLemmas.{launch_of-found}
+use Rattle.st_events.proofs.ExtendsLemmas.{launch_stays, lost_stays}
+use Rattle.st_events.proofs.LaunchLemmas.{launch_is_found}
 
 -- a journal with this Launch in it has a Launch of the check
 has_launch_within : (before rest : List Event) (m site n : ℕ) (args : Args) → has_launch n (before ++ Launch m site n args ∷ rest) ≡ true
@@ -26,7 +20,7 @@ pub known_launch_is_there :
     → launch_of shape sizes es n ≡ Some launch
     → has_launch n es ≡ true
 known_launch_is_there shape sizes es n launch h =
-    let here = launch_of-found shape sizes es n launch h in
+    let here = launch_is_found shape sizes es n launch h in
     subst (λ (ds : List Event). has_launch n ds ≡ true) (sym here.split) (has_launch_within here.before here.rest launch.thread launch.site n launch.args)
 
 -- what is right for a legal journal by such a relation is right for every legal journal that has it as a prefix, and only a
@@ -59,5 +53,5 @@ judged_by_launch rel allows shape limits = record {
     kept sizes es fs n verdict legal None e right = absurd right
     kept sizes es fs n verdict legal (Some launch) e right =
         let more = λ (obj : ℕ). is_lost (lost_pairs shape sizes (es ++ fs)) obj n in
-        subst (λ (o : Option Launched). IsRightOfLaunch (rel sizes) o more verdict) (sym (launch_of-stays shape sizes limits es fs n launch legal e))
-        (allows sizes launch (λ obj. is_lost (lost_pairs shape sizes es) obj n) more verdict (λ obj h. is_lost-stays shape sizes es fs obj n h) right)
+        subst (λ (o : Option Launched). IsRightOfLaunch (rel sizes) o more verdict) (sym (launch_stays shape sizes limits es fs n launch legal e))
+        (allows sizes launch (λ obj. is_lost (lost_pairs shape sizes es) obj n) more verdict (λ obj h. lost_stays shape sizes es fs obj n h) right)

@@ -1,14 +1,11 @@
 -- What a legal event says, and when an event is legal
-use Rattle.std.proofs.Common.{◌≡◌, ℕ, ◌+◌, ◌<◌, ◌≤◌, ◌==◌, cond, Bool, true, false, List, [], ◌∷◌, length, Option, Some, None, refl, ap, arith, IsSome, nat_le, nat_lt}
+use Rattle.std.proofs.Common.{◌≡◌, ℕ, ◌+◌, ◌<◌, ◌≤◌, ◌==◌, cond, Bool, true, false, List, [], ◌∷◌, length, Option, Some, None}
+use Rattle.std.proofs.Common.{refl, ap, arith, IsSome, nat_le, nat_lt}
 use Rattle.std.proofs.lemmas.Bool.Decides.{nat_tests}
-use Rattle.st_events.specs.declared.events.Args.{Args}
-use Rattle.st_events.specs.declared.events.Event.TheVariants.{New, Load, Store, Cas, Launch, Retire}
-use Rattle.st_events.specs.declared.limits.Sizes.{Sizes}
-use Rattle.st_events.specs.Shape.{ShapeLists}
-use Rattle.st_events.specs.Heap.{Heap, Object, word_of, word_at}
-use Rattle.st_events.specs.World.{World}
-use Rattle.st_events.specs.Legal.{IsLegalNext, Rule, first_failing, rules_of, next_object, fits_cell, is_word, same_truth}
-use Rattle.st_events.specs.LegalEvents.{LegalNew, LegalLoad, LegalStore, LegalCas, LegalLaunch, LegalRetire, TellOfEvents}
+use Rattle.st_events.specs.Terms.{Args, New, Load, Store, Cas, Launch, Retire, Sizes, ShapeLists, Heap, Object, word_of, word_at, World, IsLegalNext}
+use Rattle.st_events.specs.Terms.{next_object, fits_cell, LegalNew, LegalLoad, LegalStore, LegalCas, LegalLaunch, LegalRetire}
+use Rattle.st_events.specs.Legal.{Rule, first_failing, rules_of, is_word, same_truth}
+use Rattle.st_events.specs.LegalEvents.{TellOfEvents}
 use Rattle.st_events.proofs.AmongLemmas.{same_number}
 use Rattle.st_events.proofs.KeptLemmas.{and_parts, and_both}
 
@@ -71,10 +68,17 @@ AllHold [] = Unit {0}
 AllHold (rule ∷ rules) = (rule.holds ≡ true) × AllHold rules
 
 -- a list of rules of which none fails begins with one that holds, and none of the others fails
-first_rule_holds : (rule : Rule) (rules : List Rule) → first_failing (rule ∷ rules) ≡ None → (rule.holds ≡ true) × (first_failing rules ≡ None)
+first_rule_holds :
+    (rule : Rule) (rules : List Rule)
+    → first_failing (rule ∷ rules) ≡ None
+    → (rule.holds ≡ true) × (first_failing rules ≡ None)
 first_rule_holds rule rules n = cases rule.holds refl n
   where
-    cases : (b : Bool) → rule.holds ≡ b → cond b (first_failing rules) (Some rule.reason) ≡ None → (rule.holds ≡ true) × (first_failing rules ≡ None)
+    cases :
+        (b : Bool)
+        → rule.holds ≡ b
+        → cond b (first_failing rules) (Some rule.reason) ≡ None
+        → (rule.holds ≡ true) × (first_failing rules ≡ None)
     cases true e n = (e, n)
     cases false e n = cc
 
@@ -180,7 +184,8 @@ pub new_is_legal :
     → LegalNew shape sizes w m obj class
     → IsLegalNext shape sizes w (New m obj class)
 new_is_legal shape sizes w m obj class l =
-    let next = and_both (obj == next_object sizes w m) (nat_lt (w.made m) sizes.objects) (same_holds obj (next_object sizes w m) l.object) (below_holds (w.made m) sizes.objects l.room) in
+    let next = and_both (obj == next_object sizes w m) (nat_lt (w.made m) sizes.objects) (same_holds obj (next_object sizes w m) l.object)
+    (below_holds (w.made m) sizes.objects l.room) in
     let known = and_both (nat_le 1 class) (nat_lt class (length shape.classes)) (at_most_holds 1 class l.some_class) (below_holds class (length shape.classes) l.declared) in
     none_fails (rules_of shape sizes w (New m obj class)) (below_holds m sizes.mutators l.thread, (next, (known, tt)))
 
@@ -219,8 +224,13 @@ pub launch_is_legal :
     → LegalLaunch shape sizes w m number site args
     → IsLegalNext shape sizes w (Launch m site number args)
 launch_is_legal shape sizes w m number site args l =
-    none_fails (rules_of shape sizes w (Launch m site number args))
-    (below_holds m sizes.mutators l.thread, (same_holds number (w.epoch + 1) l.next_number, (below_holds site (length shape.checks) l.statement, (l.arguments, (below_holds (length w.active) sizes.lanes l.lane, tt)))))
+    none_fails (rules_of shape sizes w (Launch m site number args)) (
+      below_holds m sizes.mutators l.thread,
+      (
+        same_holds number (w.epoch + 1) l.next_number,
+        (below_holds site (length shape.checks) l.statement, (l.arguments, (below_holds (length w.active) sizes.lanes l.lane, tt))),
+      ),
+    )
 
 -- a Retire is
 pub retire_is_legal :

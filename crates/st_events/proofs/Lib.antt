@@ -1,3 +1,4 @@
+-- The lemmas; the public ones serve the crates above.
 pub mod AlikeLemmas
 mod AllLemmas
 pub mod AmongLemmas

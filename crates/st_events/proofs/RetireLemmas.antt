@@ -2,21 +2,16 @@
 use Rattle.std.proofs.Common.{◌≡◌, ℕ, ◌≤◌, ◌==◌, Bool, true, false, ◌⊎◌, inl, inr, List, [], ◌∷◌, ◌++◌, Some, refl, sym, ◌∙◌, ap, subst, arith}
 use Rattle.std.proofs.lemmas.List.{append_assoc}
 use Rattle.std.proofs.lemmas.Bool.Decides.{eqb_tells}
-use Rattle.st_events.specs.declared.events.Event.{Event}
-use Rattle.st_events.specs.declared.events.Event.TheVariants.{New, Load, Store, Cas, Launch, Retire}
-use Rattle.st_events.specs.declared.limits.Sizes.{Sizes}
-use Rattle.st_events.specs.Shape.{ShapeLists, IsWithinLimits}
-use Rattle.st_events.specs.World.{World, Launched, next, first_world, world_from, world_after, is_among}
-use Rattle.st_events.specs.Legal.{IsLegal, IsLegalNext, IsLegalFrom}
-use Rattle.st_events.specs.History.{active_checks, launch_of, IsLaunchIn, IsRetireIn}
-use Rattle.st_events.specs.Sound.{IsSound}
-use Rattle.st_events.proofs.AmongLemmas.{is_among-front, is_among-back, is_among-snoc, is_among-without, without-is_among, or_first, same_number}
-use Rattle.st_events.proofs.ExtendsLemmas.{launch_of-stays}
-use Rattle.st_events.proofs.LaunchLemmas.{launch_of-found}
+use Rattle.st_events.specs.Terms.{Event, New, Load, Store, Cas, Launch, Retire, Sizes, ShapeLists, IsWithinLimits, World, Launched, next, first_world}
+use Rattle.st_events.specs.Terms.{world_from, world_after, is_among, IsLegal, IsLegalNext, IsLegalFrom, active_checks, launch_of, IsLaunchIn, IsRetireIn}
+use Rattle.st_events.specs.Sound.{IsSoundWorld}
+use Rattle.st_events.proofs.AmongLemmas.{among_front, among_back, among_one_more, among_without, without_is_among, or_first, same_number}
+use Rattle.st_events.proofs.ExtendsLemmas.{launch_stays}
+use Rattle.st_events.proofs.LaunchLemmas.{launch_is_found}
 use Rattle.st_events.proofs.LegalEvents.{legal_launch, legal_retire}
-use Rattle.st_events.proofs.LegalLemmas.{IsLegal-prefix, IsLegal-rest}
-use Rattle.st_events.proofs.SoundLemmas.{sound-first, sound-next, sound_after}
-use Rattle.st_events.proofs.WorldLemmas.{world_after-append, world_after-snoc}
+use Rattle.st_events.proofs.LegalLemmas.{prefix_is_legal, rest_is_legal}
+use Rattle.st_events.proofs.SoundLemmas.{first_is_sound, next_is_sound, legal_is_sound}
+use Rattle.st_events.proofs.WorldLemmas.{world_after_joined, world_after_one_more}
 
 -- ---- active or retired
 
@@ -55,10 +50,10 @@ active_then shape sizes w (e ∷ es) n h = elim (step e) [
     step (Store m obj field value) = inl h
     step (Cas m obj field expect value true) = inl h
     step (Cas m obj field expect value false) = inl h
-    step (Launch m site number args) = inl (is_among-front w.active (number ∷ []) n h)
+    step (Launch m site number args) = inl (among_front w.active (number ∷ []) n h)
     step (Retire m number) = elim (eqb_tells n number) [
       | inl same ↦ inr (m, ap (λ (k : ℕ). Retire m k) (sym same.1))
-      | inr other ↦ inl (without-is_among number w.active n h other.1)
+      | inr other ↦ inl (without_is_among number w.active n h other.1)
     ]
 
 -- a check that was launched is active, or was retired by an event of the journal
@@ -67,10 +62,11 @@ pub launched_is_active_or_retired :
     → launch_of shape sizes es n ≡ Some launch
     → (is_among (active_checks shape sizes es) n ≡ true) ⊎ ((thread : ℕ) × IsRetireIn es n thread)
 launched_is_active_or_retired shape sizes es n launch h =
-    subst (λ (ds : List Event). (is_among (active_checks shape sizes ds) n ≡ true) ⊎ IsRetired ds n) (sym whole) (then (active_then shape sizes (world_after shape sizes front) here.rest n active))
+    subst (λ (ds : List Event). (is_among (active_checks shape sizes ds) n ≡ true) ⊎ IsRetired ds n) (sym whole)
+    (then (active_then shape sizes (world_after shape sizes front) here.rest n active))
   where
     here : IsLaunchIn shape sizes es n launch
-    here = launch_of-found shape sizes es n launch h
+    here = launch_is_found shape sizes es n launch h
 
     event : Event
     event = Launch launch.thread launch.site n launch.args
@@ -82,10 +78,13 @@ launched_is_active_or_retired shape sizes es n launch h =
     whole = here.split ∙ sym (append_assoc here.before (event ∷ []) here.rest)
 
     active : is_among (world_after shape sizes front).active n ≡ true
-    active = subst (λ (w : World). is_among w.active n ≡ true) (sym (world_after-snoc shape sizes here.before event)) (is_among-back (world_after shape sizes here.before).active (n ∷ []) n (or_first (n == n) false (same_number n)))
+    active = subst (λ (w : World). is_among w.active n ≡ true) (sym (world_after_one_more shape sizes here.before event))
+        (among_back (world_after shape sizes here.before).active (n ∷ []) n (or_first (n == n) false (same_number n)))
 
-    then : (is_among (world_from shape sizes (world_after shape sizes front) here.rest).active n ≡ true) ⊎ IsRetired here.rest n → (is_among (active_checks shape sizes (front ++ here.rest)) n ≡ true) ⊎ IsRetired (front ++ here.rest) n
-    then (inl a) = inl (subst (λ (w : World). is_among w.active n ≡ true) (sym (world_after-append shape sizes front here.rest)) a)
+    then :
+        (is_among (world_from shape sizes (world_after shape sizes front) here.rest).active n ≡ true) ⊎ IsRetired here.rest n
+        → (is_among (active_checks shape sizes (front ++ here.rest)) n ≡ true) ⊎ IsRetired (front ++ here.rest) n
+    then (inl a) = inl (subst (λ (w : World). is_among w.active n ≡ true) (sym (world_after_joined shape sizes front here.rest)) a)
     then (inr r) = inr (retired_behind front here.rest n r)
 
 -- ---- not both
@@ -93,7 +92,7 @@ launched_is_active_or_retired shape sizes es n launch h =
 -- a check that was launched and is not active does not become active again
 idle_stays :
     (shape : ShapeLists) (sizes : Sizes) (w : World) (es : List Event) (n : ℕ)
-    → IsSound shape sizes w
+    → IsSoundWorld shape sizes w
     → IsLegalFrom shape sizes w es
     → n ≤ w.epoch
     → is_among w.active n ≡ false
@@ -101,9 +100,12 @@ idle_stays :
 idle_stays shape sizes w [] n s l low h = (low, h)
 idle_stays shape sizes w (e ∷ es) n s l low h =
     let now = step e l.0 in
-    idle_stays shape sizes (next shape sizes w e) es n (sound-next shape sizes w e s l.0) l.1 now.0 now.1
+    idle_stays shape sizes (next shape sizes w e) es n (next_is_sound shape sizes w e s l.0) l.1 now.0 now.1
   where
-    step : (d : Event) → IsLegalNext shape sizes w d → (n ≤ (next shape sizes w d).epoch) × (is_among (next shape sizes w d).active n ≡ false)
+    step :
+        (d : Event)
+        → IsLegalNext shape sizes w d
+        → (n ≤ (next shape sizes w d).epoch) × (is_among (next shape sizes w d).active n ≡ false)
     step (New m obj class) k = (low, h)
     step (Load m obj field value) k = (low, h)
     step (Store m obj field value) k = (low, h)
@@ -111,22 +113,23 @@ idle_stays shape sizes w (e ∷ es) n s l low h =
     step (Cas m obj field expect value false) k = (low, h)
     step (Launch m site number args) k = (
       omega (arith, low),
-      not_true (is_among (w.active ++ number ∷ []) n) (λ t. elim (is_among-snoc w.active number n t) [
+      not_true (is_among (w.active ++ number ∷ []) n) (λ t. elim (among_one_more w.active number n t) [
         | inl old ↦ (let f : false ≡ true = sym h ∙ old in cc)
         | inr same ↦ omega (arith, same, low, (legal_launch shape sizes w m number site args k).next_number)
       ]),
     )
-    step (Retire m number) k = (low, not_true (is_among (next shape sizes w (Retire m number)).active n) (λ t. let f : false ≡ true = sym h ∙ (is_among-without number w.active n t).0 in cc))
+    step (Retire m number) k =
+        (low, not_true (is_among (next shape sizes w (Retire m number)).active n) (λ t. let f : false ≡ true = sym h ∙ (among_without number w.active n t).0 in cc))
 
 -- what a legal Retire leaves: its check was launched, and is not active
 retire_leaves :
     (shape : ShapeLists) (sizes : Sizes) (w : World) (m n : ℕ)
-    → IsSound shape sizes w
+    → IsSoundWorld shape sizes w
     → IsLegalNext shape sizes w (Retire m n)
     → (1 ≤ n) × (n ≤ w.epoch) × (is_among (next shape sizes w (Retire m n)).active n ≡ false)
 retire_leaves shape sizes w m n s l =
     let known = s.active.launched n (legal_retire shape sizes w m n l).active in
-    (known.0, known.1, not_true (is_among (next shape sizes w (Retire m n)).active n) (λ t. (is_among-without n w.active n t).1 refl))
+    (known.0, known.1, not_true (is_among (next shape sizes w (Retire m n)).active n) (λ t. (among_without n w.active n t).1 refl))
 
 -- a check that an event of the journal retired is not active
 pub retired_is_not_active :
@@ -138,11 +141,12 @@ pub retired_is_not_active :
 retired_is_not_active shape sizes limits es n thread l r =
     let legal = subst (IsLegal shape sizes) r.split l in
     let w = world_after shape sizes r.before in
-    let sound = sound_after shape sizes limits r.before (IsLegal-prefix shape sizes r.before (Retire thread n ∷ r.rest) legal) in
-    let rest = IsLegal-rest shape sizes r.before (Retire thread n ∷ r.rest) legal in
+    let sound = legal_is_sound shape sizes limits r.before (prefix_is_legal shape sizes r.before (Retire thread n ∷ r.rest) legal) in
+    let rest = rest_is_legal shape sizes r.before (Retire thread n ∷ r.rest) legal in
     let left = retire_leaves shape sizes w thread n sound rest.0 in
-    let idle = idle_stays shape sizes (next shape sizes w (Retire thread n)) r.rest n (sound-next shape sizes w (Retire thread n) sound rest.0) rest.1 left.1 left.2 in
-    subst (λ (ds : List Event). is_among (active_checks shape sizes ds) n ≡ false) (sym r.split) (subst (λ (v : World). is_among v.active n ≡ false) (sym (world_after-append shape sizes r.before (Retire thread n ∷ r.rest))) idle.1)
+    let idle = idle_stays shape sizes (next shape sizes w (Retire thread n)) r.rest n (next_is_sound shape sizes w (Retire thread n) sound rest.0) rest.1 left.1 left.2 in
+    subst (λ (ds : List Event). is_among (active_checks shape sizes ds) n ≡ false) (sym r.split)
+    (subst (λ (v : World). is_among v.active n ≡ false) (sym (world_after_joined shape sizes r.before (Retire thread n ∷ r.rest))) idle.1)
 
 -- a check that an event of the journal retired was launched
 pub retired_is_launched :
@@ -153,10 +157,13 @@ pub retired_is_launched :
     → (launch : Launched) × (launch_of shape sizes es n ≡ Some launch)
 retired_is_launched shape sizes limits es n thread l r =
     let legal = subst (IsLegal shape sizes) r.split l in
-    let sound = sound_after shape sizes limits r.before (IsLegal-prefix shape sizes r.before (Retire thread n ∷ r.rest) legal) in
-    let left = retire_leaves shape sizes (world_after shape sizes r.before) thread n sound (IsLegal-rest shape sizes r.before (Retire thread n ∷ r.rest) legal).0 in
-    let was = sound.launches.launched n left.0 left.1 in
-    (was.0, subst (λ (ds : List Event). launch_of shape sizes ds n ≡ Some was.0) (sym r.split) (launch_of-stays shape sizes limits r.before (Retire thread n ∷ r.rest) n was.0 legal was.1))
+    let sound = legal_is_sound shape sizes limits r.before (prefix_is_legal shape sizes r.before (Retire thread n ∷ r.rest) legal) in
+    let left = retire_leaves shape sizes (world_after shape sizes r.before) thread n sound (rest_is_legal shape sizes r.before (Retire thread n ∷ r.rest) legal).0 in
+    let was = sound.launches.launched n left.0 left.1 in (
+      was.0,
+      subst (λ (ds : List Event). launch_of shape sizes ds n ≡ Some was.0) (sym r.split)
+          (launch_stays shape sizes limits r.before (Retire thread n ∷ r.rest) n was.0 legal was.1),
+    )
 
 -- ---- one place
 
@@ -173,7 +180,7 @@ thread_of h = cc
 -- no event retires a check that is not active and stays so
 not_retired_again :
     (shape : ShapeLists) (sizes : Sizes) (w : World) (before rest : List Event) (n thread : ℕ)
-    → IsSound shape sizes w
+    → IsSoundWorld shape sizes w
     → IsLegalFrom shape sizes w (before ++ Retire thread n ∷ rest)
     → n ≤ w.epoch
     → is_among w.active n ≡ false
@@ -181,24 +188,25 @@ not_retired_again :
 not_retired_again shape sizes w [] rest n thread s l low h = let f : false ≡ true = sym h ∙ (legal_retire shape sizes w thread n l.0).active in cc
 not_retired_again shape sizes w (e ∷ before) rest n thread s l low h =
     let now = idle_stays shape sizes w (e ∷ []) n s (l.0, tt) low h in
-    not_retired_again shape sizes (next shape sizes w e) before rest n thread (sound-next shape sizes w e s l.0) l.1 now.0 now.1
+    not_retired_again shape sizes (next shape sizes w e) before rest n thread (next_is_sound shape sizes w e s l.0) l.1 now.0 now.1
 
 -- a Retire that stands first stands nowhere else
 first_retire_alone :
     (shape : ShapeLists) (sizes : Sizes) (w : World) (before rest es : List Event) (n thread thread' : ℕ)
-    → IsSound shape sizes w
+    → IsSoundWorld shape sizes w
     → IsLegalFrom shape sizes w (Retire thread n ∷ es)
     → es ≡ before ++ Retire thread' n ∷ rest
     → ⊥
 first_retire_alone shape sizes w before rest es n thread thread' s l e =
     let left = retire_leaves shape sizes w thread n s l.0 in
     let after = next shape sizes w (Retire thread n) in
-    not_retired_again shape sizes after before rest n thread' (sound-next shape sizes w (Retire thread n) s l.0) (subst (λ (ds : List Event). IsLegalFrom shape sizes after ds) e l.1) left.1 left.2
+    not_retired_again shape sizes after before rest n thread' (next_is_sound shape sizes w (Retire thread n) s l.0)
+    (subst (λ (ds : List Event). IsLegalFrom shape sizes after ds) e l.1) left.1 left.2
 
 -- from a sound world on
 one_retire_from :
     (shape : ShapeLists) (sizes : Sizes) (w : World) (es fs gs hs : List Event) (n thread thread' : ℕ)
-    → IsSound shape sizes w
+    → IsSoundWorld shape sizes w
     → IsLegalFrom shape sizes w (es ++ Retire thread n ∷ fs)
     → es ++ Retire thread n ∷ fs ≡ gs ++ Retire thread' n ∷ hs
     → (es ≡ gs) × (thread ≡ thread')
@@ -207,7 +215,7 @@ one_retire_from shape sizes w [] fs (g ∷ gs) hs n thread thread' s l e = absur
 one_retire_from shape sizes w (d ∷ es) fs [] hs n thread thread' s l e =
     absurd (first_retire_alone shape sizes w es fs hs n thread' thread s (subst (λ (ds : List Event). IsLegalFrom shape sizes w ds) e l) (sym (tail_of e)))
 one_retire_from shape sizes w (d ∷ es) fs (g ∷ gs) hs n thread thread' s l e =
-    let same = one_retire_from shape sizes (next shape sizes w d) es fs gs hs n thread thread' (sound-next shape sizes w d s l.0) l.1 (tail_of e) in
+    let same = one_retire_from shape sizes (next shape sizes w d) es fs gs hs n thread thread' (next_is_sound shape sizes w d s l.0) l.1 (tail_of e) in
     (ap (λ (c : Event). c ∷ es) (head_of e) ∙ ap (λ (cs : List Event). g ∷ cs) same.0, same.1)
 
 -- each check is retired at one place, by one thread
@@ -219,4 +227,4 @@ pub retired_at_one_place :
     → (before ≡ before') × (thread ≡ thread')
 unfolding IsLegal
 retired_at_one_place shape sizes limits before rest before' rest' n thread thread' l e =
-    one_retire_from shape sizes (first_world shape) before rest before' rest' n thread thread' (sound-first shape sizes limits) l e
+    one_retire_from shape sizes (first_world shape) before rest before' rest' n thread thread' (first_is_sound shape sizes limits) l e

@@ -3,34 +3,35 @@ use Rattle.std.proofs.Common.{◌≡◌, ◌≢◌, ℕ, suc, ◌+◌, ◌*◌, 
 use Rattle.std.specs.Option.{option_map}
 use Rattle.std.proofs.Math.Nat.{mul-le-mul_right}
 use Rattle.std.proofs.lemmas.Bool.Decides.{eqb_tells}
-use Rattle.st_events.specs.declared.events.Event.TheVariants.{New}
-use Rattle.st_events.specs.declared.limits.Sizes.{Sizes}
-use Rattle.st_events.specs.Shape.{ShapeLists}
-use Rattle.st_events.specs.Heap.{Heap, Object, class_at, with_object, with_word, set_word, fresh}
-use Rattle.st_events.specs.World.{World, next, at, changed}
+use Rattle.st_events.specs.Terms.{New, Sizes, ShapeLists, Heap, Object, class_at, with_object, with_word, set_word, fresh, World, next, at, changed, LegalNew}
 use Rattle.st_events.specs.Sound.{IsMade, AreRegions}
-use Rattle.st_events.proofs.WorldLemmas.{at-same}
-use Rattle.st_events.specs.LegalEvents.{LegalNew}
+use Rattle.st_events.proofs.WorldLemmas.{at_same}
 
 -- ---- the heap with one object more, and with one word set
 
-pub with_object-same : (heap : Heap) (obj : ℕ) (x : Object) → with_object heap obj x obj ≡ Some x
-with_object-same heap obj x = elim (eqb_tells obj obj) [ inl e ↦ rw e.0 refl | inr e ↦ absurd (e.1 refl) ]
+-- what stands where an object was put
+pub object_put_here : (heap : Heap) (obj : ℕ) (x : Object) → with_object heap obj x obj ≡ Some x
+object_put_here heap obj x = elim (eqb_tells obj obj) [ inl e ↦ rw e.0 refl | inr e ↦ absurd (e.1 refl) ]
 
-pub with_object-other : (heap : Heap) (obj : ℕ) (x : Object) (o : ℕ) → o ≢ obj → with_object heap obj x o ≡ heap o
-with_object-other heap obj x o ne = elim (eqb_tells o obj) [ inl e ↦ absurd (ne e.1) | inr e ↦ rw e.0 refl ]
+-- what stands at another number
+pub object_put_elsewhere : (heap : Heap) (obj : ℕ) (x : Object) (o : ℕ) → o ≢ obj → with_object heap obj x o ≡ heap o
+object_put_elsewhere heap obj x o ne = elim (eqb_tells o obj) [ inl e ↦ absurd (ne e.1) | inr e ↦ rw e.0 refl ]
 
-pub with_word-same : (heap : Heap) (obj field value : ℕ) → with_word heap obj field value obj ≡ option_map (set_word field value) (heap obj)
-with_word-same heap obj field value = elim (eqb_tells obj obj) [ inl e ↦ rw e.0 refl | inr e ↦ absurd (e.1 refl) ]
+-- what stands where a word was set
+pub word_set_here : (heap : Heap) (obj field value : ℕ) → with_word heap obj field value obj ≡ option_map (set_word field value) (heap obj)
+word_set_here heap obj field value = elim (eqb_tells obj obj) [ inl e ↦ rw e.0 refl | inr e ↦ absurd (e.1 refl) ]
 
-pub with_word-other : (heap : Heap) (obj field value o : ℕ) → o ≢ obj → with_word heap obj field value o ≡ heap o
-with_word-other heap obj field value o ne = elim (eqb_tells o obj) [ inl e ↦ absurd (ne e.1) | inr e ↦ rw e.0 refl ]
+-- what stands at another number than where a word was set
+pub word_set_elsewhere : (heap : Heap) (obj field value o : ℕ) → o ≢ obj → with_word heap obj field value o ≡ heap o
+word_set_elsewhere heap obj field value o ne = elim (eqb_tells o obj) [ inl e ↦ absurd (ne e.1) | inr e ↦ rw e.0 refl ]
 
 -- a change keeps the class of what stands at each number
-pub class_at-with_word : (heap : Heap) (obj field value o : ℕ) → class_at (with_word heap obj field value) o ≡ class_at heap o
-class_at-with_word heap obj field value o = elim (eqb_tells o obj) [ inl e ↦ rw e.0 (kept (heap o)) | inr e ↦ rw e.0 refl ]
+pub word_set_keeps_class : (heap : Heap) (obj field value o : ℕ) → class_at (with_word heap obj field value) o ≡ class_at heap o
+word_set_keeps_class heap obj field value o = elim (eqb_tells o obj) [ inl e ↦ rw e.0 (kept (heap o)) | inr e ↦ rw e.0 refl ]
   where
-    kept : (x : Option Object) → option_map (λ (y : Object). y.class) (option_map (set_word field value) x) ≡ option_map (λ (y : Object). y.class) x
+    kept :
+        (x : Option Object)
+        → option_map (λ (y : Object). y.class) (option_map (set_word field value) x) ≡ option_map (λ (y : Object). y.class) x
     kept None = refl
     kept (Some y) = refl
 
@@ -44,7 +45,11 @@ regions_apart n m m' a b la lb e = elim (nat_le_or m m') [ inl h ↦ h | inr h �
     nat_le_or x y = grind arith
 
 -- the next object of a mutator was not made before
-pub next_is_absent : (shape : ShapeLists) (sizes : Sizes) (w : World) (m obj class : ℕ) → AreRegions sizes w → LegalNew shape sizes w m obj class → w.heap obj ≡ None
+pub next_is_absent :
+    (shape : ShapeLists) (sizes : Sizes) (w : World) (m obj class : ℕ)
+    → AreRegions sizes w
+    → LegalNew shape sizes w m obj class
+    → w.heap obj ≡ None
 next_is_absent shape sizes w m obj class r l = absent (w.heap obj) refl
   where
     not_made : IsMade sizes w obj → ⊥
@@ -55,7 +60,8 @@ next_is_absent shape sizes w m obj class r l = absent (w.heap obj) refl
         let down = regions_apart sizes.objects i.m m i.k (w.made m) below l.room (sym same) in
         let one : i.m ≡ m = omega (arith, up, down) in
         let made : i.k < w.made m = subst (λ (n : ℕ). i.k < w.made n) one i.made in
-        let equal : w.made m ≡ i.k = let moved : m * sizes.objects + w.made m ≡ m * sizes.objects + i.k = subst (λ (n : ℕ). m * sizes.objects + w.made m ≡ n * sizes.objects + i.k) one same in omega (arith, moved) in
+        let equal : w.made m ≡ i.k = let moved : m * sizes.objects + w.made m ≡ m * sizes.objects + i.k =
+        subst (λ (n : ℕ). m * sizes.objects + w.made m ≡ n * sizes.objects + i.k) one same in omega (arith, moved) in
         omega (arith, made, equal)
 
     absent : (o : Option Object) → w.heap obj ≡ o → w.heap obj ≡ None
@@ -66,12 +72,17 @@ next_is_absent shape sizes w m obj class r l = absent (w.heap obj) refl
 made_grows : (w : World) (m n : ℕ) → w.made n ≤ at m (w.made m + 1) w.made n
 made_grows w m n = elim (eqb_tells n m) [ inl e ↦ rw e.0 (rw e.1 (omega arith)) | inr e ↦ rw e.0 (omega arith) ]
 
-pub regions-new : (shape : ShapeLists) (sizes : Sizes) (w : World) (m obj class : ℕ) → AreRegions sizes w → LegalNew shape sizes w m obj class → AreRegions sizes (next shape sizes w (New m obj class))
-regions-new shape sizes w m obj class r l = record {
+-- a New is the next object of its region
+pub new_keeps_regions :
+    (shape : ShapeLists) (sizes : Sizes) (w : World) (m obj class : ℕ)
+    → AreRegions sizes w
+    → LegalNew shape sizes w m obj class
+    → AreRegions sizes (next shape sizes w (New m obj class))
+new_keeps_regions shape sizes w m obj class r l = record {
   room = λ n. elim (eqb_tells n m) [ inl e ↦ rw e.0 (omega (arith, l.room)) | inr e ↦ rw e.0 (r.room n) ];
   objects = λ o x h. elim (eqb_tells o obj) [
-    | inl e ↦ inr (record { m = m; k = w.made m; thread = l.thread; made = rw at-same (omega arith); number = e.1 ∙ l.object })
-    | inr e ↦ elim (r.objects o x (sym (with_object-other w.heap obj (fresh shape class) o e.1) ∙ h)) [
+    | inl e ↦ inr (record { m = m; k = w.made m; thread = l.thread; made = rw at_same (omega arith); number = e.1 ∙ l.object })
+    | inr e ↦ elim (r.objects o x (sym (object_put_elsewhere w.heap obj (fresh shape class) o e.1) ∙ h)) [
       | inl one ↦ inl one
       | inr i ↦ inr (record { m = i.m; k = i.k; thread = i.thread; made = omega (arith, i.made, made_grows w m i.m); number = i.number })
     ]
@@ -79,15 +90,25 @@ regions-new shape sizes w m obj class r l = record {
 }
 
 -- what stands at a number after a change stood there before
-before_word : (heap : Heap) (obj field value o : ℕ) (x : Object) → with_word heap obj field value o ≡ Some x → (y : Object) × (heap o ≡ Some y)
-before_word heap obj field value o x h = elim (eqb_tells o obj) [ inl e ↦ some (heap o) (sym (rw e.0 refl) ∙ h) | inr e ↦ (x, sym (with_word-other heap obj field value o e.1) ∙ h) ]
+before_word :
+    (heap : Heap) (obj field value o : ℕ) (x : Object)
+    → with_word heap obj field value o ≡ Some x
+    → (y : Object) × (heap o ≡ Some y)
+before_word heap obj field value o x h =
+    elim (eqb_tells o obj) [ inl e ↦ some (heap o) (sym (rw e.0 refl) ∙ h) | inr e ↦ (x, sym (word_set_elsewhere heap obj field value o e.1) ∙ h) ]
   where
     some : (z : Option Object) → option_map (set_word field value) z ≡ Some x → (y : Object) × (z ≡ Some y)
     some None g = cc
     some (Some y) g = (y, refl)
 
-pub regions-changed : (sizes : Sizes) (w : World) (obj field value : ℕ) → AreRegions sizes w → AreRegions sizes (changed sizes w obj field value)
-regions-changed sizes w obj field value r = record {
+-- a change makes no object
+pub change_keeps_regions :
+    (sizes : Sizes) (w : World) (obj field value : ℕ)
+    → AreRegions sizes w
+    → AreRegions sizes (changed sizes w obj field value)
+change_keeps_regions sizes w obj field value r = record {
   room = r.room;
-  objects = λ o x h. let was = before_word w.heap obj field value o x h in elim (r.objects o was.0 was.1) [ inl one ↦ inl one | inr i ↦ inr (record { m = i.m; k = i.k; thread = i.thread; made = i.made; number = i.number }) ];
+  objects = λ o x h. let was =
+      before_word w.heap obj field value o x h in elim
+      (r.objects o was.0 was.1) [ inl one ↦ inl one | inr i ↦ inr (record { m = i.m; k = i.k; thread = i.thread; made = i.made; number = i.number }) ];
 }

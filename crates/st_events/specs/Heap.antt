@@ -1,3 +1,4 @@
+-- Objects, heaps, and what one step makes of them.
 use Rattle.std.specs.Prelude.{ℕ, ◌==◌, if◌then◌else◌, List, map, slice_get, slice_set, Option, Some, None, option_map}
 use Rattle.std.specs.Option.{option_flatten}
 use Rattle.st_events.specs.declared.heaps.TheConstants.{SHARED_OBJECT}

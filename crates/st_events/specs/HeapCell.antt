@@ -1,3 +1,4 @@
+-- What a place of the vector of cells stands for.
 use Rattle.std.specs.Prelude.{◌≡◌, ℕ, ◌≤◌, List, length, take, All, Option, Some, None}
 use Rattle.st_events.specs.declared.heaps.Cell.{Cell}
 use Rattle.st_events.specs.declared.shapes.TheConstants.{MOST_FIELDS}

@@ -1,3 +1,4 @@
+-- What a journal says, by name: its heap, epoch, stamps, checks, rows and pairs, and the events of a thread.
 use Rattle.std.specs.Prelude.{◌≡◌, ℕ, ◌+◌, ◌==◌, Bool, true, false, List, ◌∷◌, ◌++◌, length, filter, Option}
 use Rattle.std.specs.List.{list_any}
 use Rattle.st_events.specs.declared.events.Event.{Event}

@@ -1,3 +1,4 @@
+-- What contracts see of a journal in memory.
 use Rattle.std.specs.Prelude.{ℕ, List}
 use Rattle.st_events.specs.declared.events.Event.{Event}
 

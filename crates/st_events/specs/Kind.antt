@@ -1,3 +1,4 @@
+-- Kinds that name declared classes.
 use Rattle.std.specs.Prelude.{ℕ, ◌<◌, ◌≤◌, List, length, All}
 use Rattle.st_events.specs.declared.shapes.Kind.{Kind}
 use Rattle.st_events.specs.declared.shapes.Kind.TheVariants.{Int, Bool, Ref}

@@ -12,7 +12,7 @@ use Rattle.st_events.specs.History.{heap_after, epoch_of, made_by, active_checks
 use Rattle.st_events.specs.History.{IsLaunchIn, IsRetireIn, is_launch, is_new_of}
 use Rattle.st_events.specs.Judge.{IsJudge, IsRightByLaunch, AllowsMoreLost}
 use Rattle.st_events.specs.Words.{BringsWords, HoldsWords, IsLaunchOfWords}
-use Rattle.st_events.specs.Sound.{Extends, IsSound}
+use Rattle.st_events.specs.Sound.{Extends, IsSoundWorld}
 
 -- one event more makes of a journal's world its next, and keeps it legal where the event is legal after it; and in a legal journal
 -- each event is legal after those before it
@@ -35,11 +35,11 @@ abbrev pub HaveLegalPrefixes : Type 0
 HaveLegalPrefixes = (shape : ShapeLists) (sizes : Sizes) (es fs : List Event) → IsLegal shape sizes (es ++ fs) → IsLegal shape sizes es
 
 -- after every legal journal the heap is typed, launches count from 1, active checks have lanes, and copies are in order
-abbrev pub AreSound : Type 0
-AreSound =
+abbrev pub HaveSoundWorlds : Type 0
+HaveSoundWorlds =
     (shape : ShapeLists) (sizes : Sizes) → IsWithinLimits shape
     → (es : List Event)
-    → IsLegal shape sizes es → IsSound shape sizes (world_after shape sizes es)
+    → IsLegal shape sizes es → IsSoundWorld shape sizes (world_after shape sizes es)
 
 -- a cell stays in every legal extension, in an object of the same class; so does what is known of a launch, and a lost version
 pub record KeepThePast : Type 0 where

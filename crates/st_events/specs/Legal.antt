@@ -1,3 +1,4 @@
+-- Which events are legal after those that made a world, and which journals are legal.
 use Rattle.std.specs.Prelude.{◌≡◌, ℕ, ◌+◌, ◌*◌, ◌==◌, nat_lt, nat_le, Bool, true, false, not, ◌&&◌, ◌||◌, if◌then◌else◌}
 use Rattle.std.specs.Prelude.{List, [], ◌∷◌, ◌++◌, length, drop, Option, Some, None, is_some, slice_get}
 use Rattle.std.specs.List.{list_all}
@@ -35,13 +36,13 @@ has_kind_if_any heap None word = false
 has_kind_if_any heap (Some kind) word = has_kind heap kind word
 
 -- the kind of a field of what stands there
-abbrev pub kind_of : ShapeLists → Option Object → ℕ → Option Kind
-kind_of shape None field = None
-kind_of shape (Some x) field = slice_get (kinds_of shape x.class) field
+abbrev pub kind_of_field : ShapeLists → Option Object → ℕ → Option Kind
+kind_of_field shape None field = None
+kind_of_field shape (Some x) field = slice_get (kinds_of shape x.class) field
 
 -- whether a word has the kind of the cell
 abbrev pub fits_cell : ShapeLists → Heap → ℕ → ℕ → ℕ → Bool
-fits_cell shape heap obj field word = has_kind_if_any heap (kind_of shape (heap obj) field) word
+fits_cell shape heap obj field word = has_kind_if_any heap (kind_of_field shape (heap obj) field) word
 
 -- whether the word found is this one
 abbrev pub is_word : Option ℕ → ℕ → Bool

@@ -1,3 +1,4 @@
+-- The definitions that contracts cite.
 pub mod Heap
 pub mod HeapCell
 pub mod History
@@ -12,5 +13,6 @@ pub mod Seen
 pub mod Shape
 pub mod Sizes
 pub mod Sound
+pub mod Terms
 pub mod Words
 pub mod World

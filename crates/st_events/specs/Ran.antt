@@ -1,3 +1,4 @@
+-- What contracts see of what a run leaves.
 use Rattle.std.specs.Prelude.{ℕ, List}
 use Rattle.st_events.specs.declared.events.Event.{Event}
 use Rattle.st_events.specs.declared.verdicts.Verdict.{Verdict}

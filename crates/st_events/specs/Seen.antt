@@ -1,3 +1,4 @@
+-- What a replay knows of the world.
 use Rattle.std.specs.Prelude.{◌≡◌, ◌+◌, ◌*◌, [], length, get_or, Option, None}
 use Rattle.st_events.specs.declared.events.Event.{Event}
 use Rattle.st_events.specs.declared.heaps.TheConstants.{FIRST_OF_REGIONS}
@@ -16,7 +17,17 @@ pub record LooksAlike (w v : World) : Type 0 where
 
 -- the world as far as a replay knows it
 abbrev pub seen : Replay → World
-seen r = record { heap = heap_of r.heap; stamp = λ _. 0; made = λ m. get_or r.made.items m 0; epoch = r.launches; launched = λ _. None; active = r.active.items; kept = []; lost = [] }
+seen r = record {
+  heap = heap_of r.heap;
+  stamp = λ _. 0;
+  made = λ m. get_or r.made.items m 0;
+  epoch = r.launches;
+  launched = λ _. None;
+  active = r.active.items;
+  kept = [];
+  lost =
+      [];
+}
 
 -- the first reason why an event is not legal after what a replay has seen
 abbrev pub reason_of : Replay → Event → Option Why

@@ -1,3 +1,4 @@
+-- What contracts see of a shape, and the limits of one.
 use Rattle.std.specs.Prelude.{ℕ, ◌≤◌, List, [], length, All, map, Vec, slice_get, unwrap_or}
 use Rattle.std.specs.declared.alloc.Global.{Global}
 use Rattle.st_events.specs.declared.shapes.Kind.{Kind}

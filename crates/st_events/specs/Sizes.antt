@@ -1,3 +1,4 @@
+-- The limits of sizes, and the usual ones.
 use Rattle.std.specs.Prelude.{ℕ, ◌≤◌}
 use Rattle.st_events.specs.declared.limits.Sizes.{Sizes}
 use Rattle.st_events.specs.declared.limits.TheConstants.{MOST_MUTATORS, MOST_LANES, MOST_OBJECTS, MOST_COPIES, MOST_EVENTS, MOST_CALLS}

@@ -1,5 +1,6 @@
 -- What holds of a world after a legal journal, part by part.
-use Rattle.std.specs.Prelude.{◌≡◌, ℕ, ◌+◌, ◌*◌, ◌<◌, ◌≤◌, ◌==◌, ◌&&◌, ◌⊎◌, Bool, true, false, List, [], ◌∷◌, length, filter, All, Some, None, IsSome, slice_get}
+use Rattle.std.specs.Prelude.{◌≡◌, ℕ, ◌+◌, ◌*◌, ◌<◌, ◌≤◌, ◌==◌, ◌&&◌, ◌⊎◌, Bool, true, false, List, [], ◌∷◌}
+use Rattle.std.specs.Prelude.{length, filter, All, Some, None, IsSome, slice_get}
 use Rattle.st_events.specs.declared.heaps.TheConstants.{FIRST_OF_REGIONS, SHARED_OBJECT}
 use Rattle.st_events.specs.declared.limits.Sizes.{Sizes}
 use Rattle.st_events.specs.Shape.{ShapeLists, kinds_of}
@@ -30,7 +31,10 @@ pub record AreRegions (sizes : Sizes) (w : World) : Type 0 where
 
 -- the later heap has each object of the earlier one, of the same class and with as many words
 pub record Extends (earlier later : Heap) : Type 0 where
-  pub object : (obj : ℕ) (x : Object) → earlier obj ≡ Some x → (y : Object) × (later obj ≡ Some y) × (y.class ≡ x.class) × (length y.words ≡ length x.words)
+  pub object :
+      (obj : ℕ) (x : Object)
+      → earlier obj ≡ Some x
+      → (y : Object) × (later obj ≡ Some y) × (y.class ≡ x.class) × (length y.words ≡ length x.words)
 
 -- the launched checks are those from 1 to the epoch
 pub record AreLaunches (w : World) : Type 0 where
@@ -67,7 +71,7 @@ pub record IsNoted (w : World) (obj n : ℕ) : Type 0 where
 
 -- no more copies are kept than there are; what is kept or lost for a check is an old version of an object that stood in the
 -- heap at its launch; and each such version that an active check needs is kept or lost
-pub record AreCopies (sizes : Sizes) (w : World) : Type 0 where
+pub record AreVersionsNoted (sizes : Sizes) (w : World) : Type 0 where
   pub copies : length w.kept ≤ sizes.copies
   pub kept_active : (obj n : ℕ) → is_kept w.kept obj n ≡ true → is_among w.active n ≡ true
   pub kept_noted : (obj n : ℕ) → is_kept w.kept obj n ≡ true → IsNoted w obj n
@@ -101,13 +105,13 @@ pub record AreFittingLaunches (shape : ShapeLists) (sizes : Sizes) (w : World) :
   pub each : (n : ℕ) (launch : Launched) → w.launched n ≡ Some launch → IsFittingLaunch shape sizes launch
 
 -- all that holds after a legal journal
-pub record IsSound (shape : ShapeLists) (sizes : Sizes) (w : World) : Type 0 where
+pub record IsSoundWorld (shape : ShapeLists) (sizes : Sizes) (w : World) : Type 0 where
   pub typed : IsTypedHeap shape w.heap
   pub regions : AreRegions sizes w
   pub launches : AreLaunches w
   pub active : AreActive sizes w
   pub stamps : AreStamps w
   pub pasts : ArePasts w
-  pub copies : AreCopies sizes w
+  pub copies : AreVersionsNoted sizes w
   pub rows : AreRowsApart w
   pub fitting : AreFittingLaunches shape sizes w

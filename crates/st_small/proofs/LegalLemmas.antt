@@ -11,7 +11,7 @@ use Rattle.st_events.specs.declared.shapes.Kind.{Kind}
 use Rattle.st_events.specs.declared.shapes.Kind.TheVariants.{Int, Ref}
 use Rattle.st_events.specs.Heap.{Heap, Object, class_at}
 use Rattle.st_events.specs.World.{World, next}
-use Rattle.st_events.specs.Legal.{IsLegalNext, IsLegalFrom, has_kind_if_any, kind_of, is_of_class}
+use Rattle.st_events.specs.Legal.{IsLegalNext, IsLegalFrom, has_kind_if_any, kind_of_field, is_of_class}
 use Rattle.st_events.proofs.AmongLemmas.{same_number}
 use Rattle.st_events.proofs.LegalEvents.{new_is_legal, store_is_legal, launch_is_legal, retire_is_legal}
 use Rattle.st_small_source.specs.declared.programs.SmallStmt.{SmallStmt}
@@ -24,7 +24,7 @@ use Rattle.st_small.proofs.LocalLemmas.{IsNode, word-of-node}
 use Rattle.st_small.proofs.WorldLemmas.{IsReady, progress_in, ready-next, world_next}
 
 node-fits : (program : SmallLists) (heap : Heap) (o : Option Object) (field value : ℕ) → IsNode program.fields o → slice_get program.fields field ≡ Some Int →
-    has_kind_if_any heap (kind_of (shape_of program) o field) value ≡ true
+    has_kind_if_any heap (kind_of_field (shape_of program) o field) value ≡ true
 node-fits program heap None field value node is = absurd node
 node-fits program heap (Some x) field value node is = rw (node.0, is) refl
 

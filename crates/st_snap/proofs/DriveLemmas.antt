@@ -14,12 +14,12 @@ use Rattle.st_events.specs.declared.shapes.Kind.TheVariants.{Int}
 use Rattle.st_events.specs.Shape.{ShapeLists, IsWithinLimits, kinds_of}
 use Rattle.st_events.specs.Heap.{Heap, Object, word_of, word_at, fresh}
 use Rattle.st_events.specs.World.{World}
-use Rattle.st_events.specs.Legal.{fits_cell, kind_of, has_kind_if_any, args_fit}
+use Rattle.st_events.specs.Legal.{fits_cell, kind_of_field, has_kind_if_any, args_fit}
 use Rattle.st_events.specs.Sound.{IsTypedHeap}
-use Rattle.st_events.proofs.WorldLemmas.{world_after-snoc, at-same}
-use Rattle.st_events.proofs.LegalLemmas.{IsLegal-empty}
-use Rattle.st_events.proofs.SoundHeap.{with_object-same}
-use Rattle.st_events.proofs.SoundLemmas.{sound_after}
+use Rattle.st_events.proofs.WorldLemmas.{world_after_one_more, at_same}
+use Rattle.st_events.proofs.LegalLemmas.{empty_is_legal}
+use Rattle.st_events.proofs.SoundHeap.{object_put_here}
+use Rattle.st_events.proofs.SoundLemmas.{legal_is_sound}
 use Rattle.st_snap.specs.declared.lanes.Lane.{Lane}
 use Rattle.st_snap.specs.Snapshots.{Snapshots, world_of, heap_now, new_heap, with_event, IsLegalHeap, IsLaneOf, HasNoLane, HasCell, has_kind_of, are_args_of, word_then}
 use Rattle.st_snap.specs.Drive.{IsDriven, IsDrivenLane, HasCells, HadCells, plain_shape}
@@ -35,7 +35,7 @@ kind-int width (suc zero) field kind e = slice_get-replicate width Int field kin
 kind-int width (suc (suc class)) field kind e = cc
 
 -- so each word has the kind of a cell that exists
-int-fits : (width : ℕ) (heap : Heap) (x : Option Object) (field found word : ℕ) → has_kind_if_any heap (kind_of (plain_shape width) x field) found ≡ true → has_kind_if_any heap (kind_of (plain_shape width) x field) word ≡ true
+int-fits : (width : ℕ) (heap : Heap) (x : Option Object) (field found word : ℕ) → has_kind_if_any heap (kind_of_field (plain_shape width) x field) found ≡ true → has_kind_if_any heap (kind_of_field (plain_shape width) x field) word ≡ true
 int-fits width heap None field found word h = cc
 int-fits width heap (Some x) field found word h = cases (slice_get (kinds_of (plain_shape width) x.class) field) refl h
   where
@@ -47,7 +47,7 @@ pub driven-kind : (s : Snapshots) (sizes : Sizes) (width : ℕ) (known : List (�
 driven-kind s sizes width known held obj field word d cell = cases (word_at (heap_now s) obj field) refl cell
   where
     typed : IsTypedHeap s.shape (heap_now s)
-    typed = (sound_after s.shape s.sizes d.fits s.journal d.legal).typed
+    typed = (legal_is_sound s.shape s.sizes d.fits s.journal d.legal).typed
 
     cases : (o : Option ℕ) → word_at (heap_now s) obj field ≡ o → IsSome o → fits_cell s.shape (heap_now s) obj field word ≡ true
     cases None e i = cc
@@ -96,7 +96,7 @@ driven-first sizes width fits = record {
   sizes = refl;
   shape = refl;
   fits = fits;
-  legal = IsLegal-empty (plain_shape width) sizes;
+  legal = empty_is_legal (plain_shape width) sizes;
   objects = All-push (HasCells (new_heap (plain_shape width) sizes)) [] (1, 1) (All-nil (HasCells (new_heap (plain_shape width) sizes))) shared;
   lanes = All-nil (IsDrivenLane (new_heap (plain_shape width) sizes) ((1, 1) ∷ []));
   apart = apart-none;
@@ -113,8 +113,8 @@ new-cells s width m obj shape = λ field lt.
     let words : List ℕ = map (λ _. 0) (kinds_of s.shape 1) in
     let many : length words ≡ length (kinds_of s.shape 1) = length-map (kinds_of s.shape 1) (λ _. 0) in
     let long : field < length words = omega (arith, many, ap length kinds, length-replicate width Int) in
-    subst (λ (w : World). IsSome (word_at w.heap obj field)) (sym (world_after-snoc s.shape s.sizes s.journal (New m obj 1)))
-    (subst (λ (x : Option Object). IsSome (word_of x field)) (sym (with_object-same (world_of s).heap obj (fresh s.shape 1))) (rw (slice_get-get_or words field 0 long) refl))
+    subst (λ (w : World). IsSome (word_at w.heap obj field)) (sym (world_after_one_more s.shape s.sizes s.journal (New m obj 1)))
+    (subst (λ (x : Option Object). IsSome (word_of x field)) (sym (object_put_here (world_of s).heap obj (fresh s.shape 1))) (rw (slice_get-get_or words field 0 long) refl))
 
 -- a new object, where no check is active
 pub driven-new : (s s' : Snapshots) (sizes : Sizes) (width m obj : ℕ) (known : List (ℕ × ℕ)) → IsDriven s' sizes width known [] → s.shape ≡ plain_shape width → s' ≡ with_event s (New m obj 1) → IsDriven s' sizes width (known ++ (obj, width) ∷ []) []
@@ -138,8 +138,8 @@ driven-args s sizes width known held d = (
 -- each known object stood at a launch that is just made
 launched-cells : (s : Snapshots) (m n site : ℕ) (args : Args) (object : ℕ × ℕ) → HasCells s object → HadCells (with_event s (Launch m site n args)) n object
 launched-cells s m n site args object has = λ field lt.
-    subst (λ (w : World). IsSome (word_then (w.launched n) object.0 field)) (sym (world_after-snoc s.shape s.sizes s.journal (Launch m site n args)))
-    (rw (at-same n (Some (record { past = (world_of s).heap; thread = m; site = site; args = args })) (world_of s).launched) (has field lt))
+    subst (λ (w : World). IsSome (word_then (w.launched n) object.0 field)) (sym (world_after_one_more s.shape s.sizes s.journal (Launch m site n args)))
+    (rw (at_same n (Some (record { past = (world_of s).heap; thread = m; site = site; args = args })) (world_of s).launched) (has field lt))
 
 -- a launch
 pub driven-launch : (s s' : Snapshots) (sizes : Sizes) (width m site : ℕ) (args : Args) (lane : Lane) (known : List (ℕ × ℕ)) (held : List Lane) → IsDriven s sizes width known held → IsDriven s' sizes width known held → s' ≡ with_event s (Launch m site lane.number args) → IsLaneOf s' lane → HasNoLane s lane.number → IsDriven s' sizes width known (held ++ lane ∷ [])

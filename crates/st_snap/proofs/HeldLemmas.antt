@@ -6,8 +6,8 @@ use Rattle.st_events.specs.declared.limits.Sizes.{Sizes}
 use Rattle.st_events.specs.Journal.{Written}
 use Rattle.st_events.specs.Shape.{ShapeLists}
 use Rattle.st_events.specs.World.{World, world_after, is_among}
-use Rattle.st_events.proofs.AmongLemmas.{is_among-without}
-use Rattle.st_events.proofs.WorldLemmas.{world_after-snoc}
+use Rattle.st_events.proofs.AmongLemmas.{among_without}
+use Rattle.st_events.proofs.WorldLemmas.{world_after_one_more}
 use Rattle.st_snap.specs.Snapshots.{Snapshots, HasNoLane}
 use Rattle.st_snap.specs.Table.{TableLists}
 use Rattle.st_snap.specs.Holds.{Holds}
@@ -31,6 +31,6 @@ next-has-no-lane shape sizes t journal s number h view next = subst (λ (x : Sna
 pub retired-has-no-lane : (shape : ShapeLists) (sizes : Sizes) (t : TableLists) (journal : Written) (before : List Event) (m number : ℕ) → Holds shape sizes t journal → journal.events ≡ before ++ Retire m number ∷ [] → HasNoLane (seen_of shape sizes journal) number
 retired-has-no-lane shape sizes t journal before m number h more = λ other is same.
     let active = h.tables.lanes.are_active other.index other.number (lane-here shape sizes t journal other h is) in
-    let same_world = ap (world_after shape sizes) more ∙ world_after-snoc shape sizes before (Retire m number) in
+    let same_world = ap (world_after shape sizes) more ∙ world_after_one_more shape sizes before (Retire m number) in
     let left = subst (λ (w : World). is_among w.active other.number ≡ true) same_world active in
-    (is_among-without number (world_after shape sizes before).active other.number left).1 same
+    (among_without number (world_after shape sizes before).active other.number left).1 same

@@ -11,10 +11,10 @@ use Rattle.st_events.specs.declared.shapes.TheConstants.{MOST_FIELDS}
 use Rattle.st_events.specs.Heap.{Heap, heap_of, word_at}
 use Rattle.st_events.specs.World.{World, Launched, next, world_from, world_after, first_world}
 use Rattle.st_events.specs.Legal.{IsLegal, IsLegalNext}
-use Rattle.st_events.specs.Sound.{IsSound}
-use Rattle.st_events.proofs.WorldLemmas.{world_after-snoc}
-use Rattle.st_events.proofs.LegalLemmas.{IsLegal-empty, IsLegal-snoc}
-use Rattle.st_events.proofs.SoundLemmas.{sound_after}
+use Rattle.st_events.specs.Sound.{IsSoundWorld}
+use Rattle.st_events.proofs.WorldLemmas.{world_after_one_more}
+use Rattle.st_events.proofs.LegalLemmas.{empty_is_legal, one_more_is_legal}
+use Rattle.st_events.proofs.SoundLemmas.{legal_is_sound}
 use Rattle.st_snap.specs.Lanes.{lanes_from, lanes_after, next_lanes}
 use Rattle.st_snap.specs.declared.lanes.Lane.{Lane}
 use Rattle.st_snap.specs.Snapshots.{event_room, IsLaneOf, word_then, word_at_launch}
@@ -39,7 +39,7 @@ pub holds-first : (shape : ShapeLists) (sizes : Sizes) (t : TableLists) (journal
 holds-first shape sizes t journal fits within first empty spare = record {
   shape_fits = fits;
   sizes_fit = within;
-  legal = subst (λ (es : List Event). IsLegal shape sizes es) (sym empty) (IsLegal-empty shape sizes);
+  legal = subst (λ (es : List Event). IsLegal shape sizes es) (sym empty) (empty_is_legal shape sizes);
   within = rw empty (omega arith);
   reserved = omega (arith, spare);
   lanes = first.lanes ∙ ap (λ (es : List Event). lanes_after sizes.lanes es) (sym empty);
@@ -47,8 +47,8 @@ holds-first shape sizes t journal fits within first empty spare = record {
 }
 
 -- what holds of the world
-pub sound-now : (shape : ShapeLists) (sizes : Sizes) (t : TableLists) (journal : Written) → Holds shape sizes t journal → IsSound shape sizes (world_after shape sizes journal.events)
-sound-now shape sizes t journal h = sound_after shape sizes h.shape_fits journal.events h.legal
+pub sound-now : (shape : ShapeLists) (sizes : Sizes) (t : TableLists) (journal : Written) → Holds shape sizes t journal → IsSoundWorld shape sizes (world_after shape sizes journal.events)
+sound-now shape sizes t journal h = legal_is_sound shape sizes h.shape_fits journal.events h.legal
 
 -- one more event
 pub holds-next : (shape : ShapeLists) (sizes : Sizes) (t t' : TableLists) (journal journal' : Written) (e : Event) → Holds shape sizes t journal → length journal.events < event_room sizes → journal'.events ≡ journal.events ++ e ∷ [] → journal'.spare ≡ journal.spare - 1 → IsLegalNext shape sizes (world_after shape sizes journal.events) e → t'.lanes ≡ next_lanes t.lanes e → Represents sizes (next shape sizes (world_after shape sizes journal.events) e) t' → Holds shape sizes t' journal'
@@ -57,11 +57,11 @@ holds-next shape sizes t t' journal journal' e h room more spare legal lanes tab
     record {
       shape_fits = h.shape_fits;
       sizes_fit = h.sizes_fit;
-      legal = subst (λ (es : List Event). IsLegal shape sizes es) (sym more) (IsLegal-snoc shape sizes journal.events e h.legal legal);
+      legal = subst (λ (es : List Event). IsLegal shape sizes es) (sym more) (one_more_is_legal shape sizes journal.events e h.legal legal);
       within = omega (arith, longer, room);
       reserved = omega (arith, longer, room, spare, h.reserved);
       lanes = lanes ∙ ap (λ (ls : List (Option ℕ)). next_lanes ls e) h.lanes ∙ sym (lanes_after-snoc sizes.lanes journal.events e) ∙ ap (λ (es : List Event). lanes_after sizes.lanes es) (sym more);
-      tables = subst (λ (es : List Event). Represents sizes (world_after shape sizes es) t') (sym more) (subst (λ (w : World). Represents sizes w t') (sym (world_after-snoc shape sizes journal.events e)) tables);
+      tables = subst (λ (es : List Event). Represents sizes (world_after shape sizes es) t') (sym more) (subst (λ (w : World). Represents sizes w t') (sym (world_after_one_more shape sizes journal.events e)) tables);
     }
 
 -- a journal has fewer events than a number of 32 bits can count
@@ -93,7 +93,7 @@ pub cell-is-small : (shape : ShapeLists) (sizes : Sizes) (t : TableLists) (journ
 cell-is-small shape sizes t journal obj field h some = small-field (heap_of t.heap) obj field (subst (λ (heap : Heap). IsSmall heap) (sym h.tables.live.heap) (small-typed shape (world_after shape sizes journal.events).heap h.shape_fits (sound-now shape sizes t journal h).typed)) some
 
 -- a Cas, done or not
-pub represents-cas : (shape : ShapeLists) (sizes : Sizes) (w : World) (t t' : TableLists) (m obj field expect value : ℕ) (done : Bool) → IsSound shape sizes w → Represents sizes w t → ChangesWhere done t t' obj field value → Represents sizes (next shape sizes w (Cas m obj field expect value done)) t'
+pub represents-cas : (shape : ShapeLists) (sizes : Sizes) (w : World) (t t' : TableLists) (m obj field expect value : ℕ) (done : Bool) → IsSoundWorld shape sizes w → Represents sizes w t → ChangesWhere done t t' obj field value → Represents sizes (next shape sizes w (Cas m obj field expect value done)) t'
 represents-cas shape sizes w t t' m obj field expect value true s r c = represents-change shape sizes w t t' obj field value s r c
 represents-cas shape sizes w t t' m obj field expect value false s r c = subst (λ (x : TableLists). Represents sizes w x) (sym c) r
 

@@ -12,18 +12,18 @@ use Rattle.std.specs.List.{position_from}
 use Rattle.st_events.specs.declared.limits.Sizes.{Sizes}
 use Rattle.st_events.specs.World.{is_among, without}
 use Rattle.st_events.specs.Sound.{IsRising}
-use Rattle.st_events.proofs.HeapLemmas.{slice_get-set}
-use Rattle.st_events.proofs.AmongLemmas.{or_first, same_number, is_among-snoc, is_among-front, is_among-back, is_among-without, without-is_among}
+use Rattle.st_events.proofs.HeapLemmas.{set_then_get}
+use Rattle.st_events.proofs.AmongLemmas.{or_first, same_number, among_one_more, among_front, among_back, among_without, without_is_among}
 use Rattle.st_snap.specs.Lanes.{is_idle, is_within, is_between, cleared}
 use Rattle.st_snap.specs.Represents.{AreLanes}
 use Rattle.st_snap.proofs.AnyLemmas.{bool_same, any_found, found_any, among_any, any_among, length-without}
 
 -- what stands where an element was set, and elsewhere
 pub set-same : {X : Type 0} (xs : List X) (i : ℕ) (x : X) → i < length xs → slice_get (slice_set xs i x) i ≡ Some x
-set-same xs i x h = slice_get-set xs i x i h ∙ elim (eqb_tells i i) [ inl e ↦ rw e.0 refl | inr e ↦ absurd (e.1 refl) ]
+set-same xs i x h = set_then_get xs i x i h ∙ elim (eqb_tells i i) [ inl e ↦ rw e.0 refl | inr e ↦ absurd (e.1 refl) ]
 
 pub set-other : {X : Type 0} (xs : List X) (i : ℕ) (x : X) (j : ℕ) → i < length xs → j ≢ i → slice_get (slice_set xs i x) j ≡ slice_get xs j
-set-other xs i x j h ne = slice_get-set xs i x j h ∙ elim (eqb_tells j i) [ inl e ↦ absurd (ne e.1) | inr e ↦ rw e.0 refl ]
+set-other xs i x j h ne = set_then_get xs i x j h ∙ elim (eqb_tells j i) [ inl e ↦ absurd (ne e.1) | inr e ↦ rw e.0 refl ]
 
 is-none : (lane : Option ℕ) → is_idle lane ≡ true → lane ≡ None
 is-none None e = refl
@@ -61,10 +61,10 @@ AreLanes-launch sizes active lanes i n a e new =
       room = length-set lanes i (Some n) ∙ a.room;
       idle = omega (arith, a.idle, count-set lanes i None (Some n) e, length-append active (n ∷ []));
       are_active = λ lane k f. elim (eqb_tells lane i) [
-        | inl s ↦ is_among-back active (n ∷ []) k (or_first (n == k) false (subst (λ (j : ℕ). (j == k) ≡ true) (sym (same n k (sym (set-same lanes i (Some n) here) ∙ ap (slice_get (slice_set lanes i (Some n))) (sym s.1) ∙ f))) (same_number k)))
-        | inr s ↦ is_among-front active (n ∷ []) k (a.are_active lane k (sym (set-other lanes i (Some n) lane here s.1) ∙ f))
+        | inl s ↦ among_back active (n ∷ []) k (or_first (n == k) false (subst (λ (j : ℕ). (j == k) ≡ true) (sym (same n k (sym (set-same lanes i (Some n) here) ∙ ap (slice_get (slice_set lanes i (Some n))) (sym s.1) ∙ f))) (same_number k)))
+        | inr s ↦ among_front active (n ∷ []) k (a.are_active lane k (sym (set-other lanes i (Some n) lane here s.1) ∙ f))
       ];
-      have_lanes = λ k h. elim (is_among-snoc active n k h) [
+      have_lanes = λ k h. elim (among_one_more active n k h) [
         | inl old ↦ (let l = a.have_lanes k old in (l.0, set-other lanes i (Some n) l.0 here (λ s. let f : slice_get lanes i ≡ Some (Some k) = ap (slice_get lanes) (sym s) ∙ l.1 in cc) ∙ l.1))
         | inr s ↦ (i, set-same lanes i (Some n) here ∙ ap (λ (j : ℕ). Some (Some j)) (sym s))
       ];
@@ -90,8 +90,8 @@ AreLanes-retire sizes active lanes i n a rising e =
     record {
       room = length-set lanes i None ∙ a.room;
       idle = omega (arith, a.idle, count-set lanes i (Some n) None e, length-without n active rising (a.are_active i n e));
-      are_active = λ lane k f. let o = old here lane k f in without-is_among n active k (a.are_active lane k o.1) (λ s. o.0 (a.once lane i n (o.1 ∙ ap (λ (j : ℕ). Some (Some j)) s) e));
-      have_lanes = λ k h. let w = is_among-without n active k h in let l = a.have_lanes k w.0 in (l.0, set-other lanes i None l.0 here (λ s. w.1 (same k n (sym l.1 ∙ ap (slice_get lanes) s ∙ e))) ∙ l.1);
+      are_active = λ lane k f. let o = old here lane k f in without_is_among n active k (a.are_active lane k o.1) (λ s. o.0 (a.once lane i n (o.1 ∙ ap (λ (j : ℕ). Some (Some j)) s) e));
+      have_lanes = λ k h. let w = among_without n active k h in let l = a.have_lanes k w.0 in (l.0, set-other lanes i None l.0 here (λ s. w.1 (same k n (sym l.1 ∙ ap (slice_get lanes) s ∙ e))) ∙ l.1);
       once = λ lane other k f g. a.once lane other k (old here lane k f).1 (old here other k g).1;
     }
   where

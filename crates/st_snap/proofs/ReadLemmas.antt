@@ -11,10 +11,10 @@ use Rattle.st_events.specs.Shape.{ShapeLists, IsWithinLimits}
 use Rattle.st_events.specs.Heap.{Heap, Object, heap_of, word_of, word_at}
 use Rattle.st_events.specs.World.{World, Launched, next, world_after, is_lost}
 use Rattle.st_events.specs.Legal.{IsLegal, IsLegalNext}
-use Rattle.st_events.specs.Sound.{IsSound, IsTypedHeap}
-use Rattle.st_events.proofs.HeapLemmas.{length-kinds_of}
+use Rattle.st_events.specs.Sound.{IsSoundWorld, IsTypedHeap}
+use Rattle.st_events.proofs.HeapLemmas.{kinds_are_few}
 use Rattle.st_events.proofs.LegalLemmas.{stays}
-use Rattle.st_events.proofs.SoundLemmas.{sound-first, sound-next}
+use Rattle.st_events.proofs.SoundLemmas.{first_is_sound, next_is_sound}
 use Rattle.st_snap.specs.declared.headers.Target.{Target}
 use Rattle.st_snap.specs.declared.headers.Target.TheVariants.{Copied, Gone}
 use Rattle.st_snap.specs.declared.lanes.Lane.{Lane}
@@ -27,7 +27,7 @@ abbrev pub IsSmall : Heap → Type 0
 IsSmall heap = (obj : ℕ) (x : Object) → heap obj ≡ Some x → length x.words ≤ MOST_FIELDS
 
 pub small-typed : (shape : ShapeLists) (heap : Heap) → IsWithinLimits shape → IsTypedHeap shape heap → IsSmall heap
-small-typed shape heap l t obj x e = omega (arith, t.lengths obj x e, length-kinds_of shape l x.class)
+small-typed shape heap l t obj x e = omega (arith, t.lengths obj x e, kinds_are_few shape l x.class)
 
 -- so a field of a cell is below that number
 pub small-field : (heap : Heap) (obj field : ℕ) → IsSmall heap → IsSome (word_at heap obj field) → field < MOST_FIELDS
@@ -43,7 +43,7 @@ small-field heap obj field small some = cases (heap obj) refl some
 
 -- the same of the heap at each launch
 record HasSmallPasts (shape : ShapeLists) (sizes : Sizes) (w : World) : Type 0 where
-  sound : IsSound shape sizes w
+  sound : IsSoundWorld shape sizes w
   pasts : (n : ℕ) (l : Launched) → w.launched n ≡ Some l → IsSmall l.past
 
 small-next : (shape : ShapeLists) (sizes : Sizes) (w : World) (e : Event) → IsWithinLimits shape → HasSmallPasts shape sizes w → IsLegalNext shape sizes w e → (n : ℕ) (l : Launched) → (next shape sizes w e).launched n ≡ Some l → IsSmall l.past
@@ -63,14 +63,14 @@ small-next shape sizes w (Retire m number) fits s legal n l h = s.pasts n l h
 
 pub small-pasts : (shape : ShapeLists) (sizes : Sizes) (es : List Event) → IsWithinLimits shape → IsLegal shape sizes es → (n : ℕ) (l : Launched) → (world_after shape sizes es).launched n ≡ Some l → IsSmall l.past
 small-pasts shape sizes es fits legal = (stays shape sizes (HasSmallPasts shape sizes)
-    (record { sound = sound-first shape sizes fits; pasts = λ n l e. cc })
-    (λ w e s ok. record { sound = sound-next shape sizes w e s.sound ok; pasts = small-next shape sizes w e fits s ok })
+    (record { sound = first_is_sound shape sizes fits; pasts = λ n l e. cc })
+    (λ w e s ok. record { sound = next_is_sound shape sizes w e s.sound ok; pasts = small-next shape sizes w e fits s ok })
     es legal).pasts
 
 -- ---- what a read comes to
 
 -- an object that stood at a launch stands now
-pub still-there : (shape : ShapeLists) (sizes : Sizes) (w : World) (obj n : ℕ) (l : Launched) → IsSound shape sizes w → w.launched n ≡ Some l → IsSome (l.past obj) → IsSome (w.heap obj)
+pub still-there : (shape : ShapeLists) (sizes : Sizes) (w : World) (obj n : ℕ) (l : Launched) → IsSoundWorld shape sizes w → w.launched n ≡ Some l → IsSome (l.past obj) → IsSome (w.heap obj)
 still-there shape sizes w obj n l s e stood = cases (w.heap obj) refl
   where
     cases : (o : Option Object) → w.heap obj ≡ o → IsSome (w.heap obj)
@@ -101,7 +101,7 @@ object-of-cell heap obj field some = cases (heap obj) refl some
 pub record IsAnswer (w : World) (past : Heap) (obj n field : ℕ) (answer : Option ℕ) : Type 0 where
   pub cases : ((answer ≡ word_at past obj field) × (is_lost w.lost obj n ≡ false)) ⊎ ((answer ≡ None) × (is_lost w.lost obj n ≡ true))
 
-not-lost : (shape : ShapeLists) (sizes : Sizes) (w : World) (obj n : ℕ) → IsSound shape sizes w → w.stamp obj < n → is_lost w.lost obj n ≡ false
+not-lost : (shape : ShapeLists) (sizes : Sizes) (w : World) (obj n : ℕ) → IsSoundWorld shape sizes w → w.stamp obj < n → is_lost w.lost obj n ≡ false
 not-lost shape sizes w obj n s low = cases (is_lost w.lost obj n) refl
   where
     cases : (b : Bool) → is_lost w.lost obj n ≡ b → b ≡ false
@@ -120,7 +120,7 @@ answer-sent : (w : World) (t : TableLists) (past : Heap) (obj n field : ℕ) (ta
 answer-sent w t past obj n field Gone answer some lost a = record { cases = inr (a, lost) }
 answer-sent w t past obj n field (Copied copy) answer some held a = record { cases = inl (a held.1.kept held.1.among held.1.number ∙ words-then held.1.kept.words (past obj) field held.1.words some, held.2) }
 
-pub read-answer : (shape : ShapeLists) (sizes : Sizes) (w : World) (t : TableLists) (lane : Lane) (l : Launched) (obj field : ℕ) (answer : Option ℕ) → IsSound shape sizes w → Represents sizes w t → slice_get t.lanes lane.index ≡ Some (Some lane.number) → w.launched lane.number ≡ Some l → IsSome (word_at l.past obj field) → Reads t lane obj field answer → IsAnswer w l.past obj lane.number field answer
+pub read-answer : (shape : ShapeLists) (sizes : Sizes) (w : World) (t : TableLists) (lane : Lane) (l : Launched) (obj field : ℕ) (answer : Option ℕ) → IsSoundWorld shape sizes w → Represents sizes w t → slice_get t.lanes lane.index ≡ Some (Some lane.number) → w.launched lane.number ≡ Some l → IsSome (word_at l.past obj field) → Reads t lane obj field answer → IsAnswer w l.past obj lane.number field answer
 read-answer shape sizes w t lane l obj field answer s r here launched some a =
     let stood = object-of-cell l.past obj field some in
     let v = r.forwards.versions obj lane.index lane.number a.forward l here launched stood (record { header = a.header; found = a.found; forward = a.forwarded }) in

@@ -8,10 +8,10 @@ use Rattle.st_events.specs.declared.limits.Sizes.{Sizes}
 use Rattle.st_events.specs.Shape.{ShapeLists}
 use Rattle.st_events.specs.Heap.{Heap, Object, heap_of, with_word}
 use Rattle.st_events.specs.World.{World, Launched, changed, at, is_among, is_lost, is_full, needing_in, kept_at_change, lost_at_change}
-use Rattle.st_events.specs.Sound.{IsSound}
-use Rattle.st_events.proofs.WorldLemmas.{at-same, at-other}
-use Rattle.st_events.proofs.AmongLemmas.{filter-is_among}
-use Rattle.st_events.proofs.KeptLemmas.{is_lost-back, pairs-is_lost}
+use Rattle.st_events.specs.Sound.{IsSoundWorld}
+use Rattle.st_events.proofs.WorldLemmas.{at_same, at_other}
+use Rattle.st_events.proofs.AmongLemmas.{passing_is_among}
+use Rattle.st_events.proofs.KeptLemmas.{lost_in_back, pairs_are_lost}
 use Rattle.st_snap.specs.declared.headers.Forward.{Forward}
 use Rattle.st_snap.specs.declared.headers.Header.{Header}
 use Rattle.st_snap.specs.declared.headers.Target.{Target}
@@ -76,7 +76,7 @@ none-needs sizes w t obj stamp upto r same none =
     let active : list_any (is_within (w.stamp obj) w.epoch) w.active ≡ false = sym (between-active sizes w.active t.lanes (w.stamp obj) w.epoch r.lanes) ∙ (rw (← same, ← r.live.epoch) none) in
     needing-within w obj upto ∙ filter-none (is_within (w.stamp obj) w.epoch) w.active active
 
-ready-unneeded : (shape : ShapeLists) (sizes : Sizes) (w : World) (t : TableLists) (obj : ℕ) (header : Header) → IsSound shape sizes w → Represents sizes w t → slice_get t.headers obj ≡ Some header → list_any (is_between header.stamp t.epoch) t.lanes ≡ false → IsReady sizes w t obj t.headers t.pool
+ready-unneeded : (shape : ShapeLists) (sizes : Sizes) (w : World) (t : TableLists) (obj : ℕ) (header : Header) → IsSoundWorld shape sizes w → Represents sizes w t → slice_get t.headers obj ≡ Some header → list_any (is_between header.stamp t.epoch) t.lanes ≡ false → IsReady sizes w t obj t.headers t.pool
 ready-unneeded shape sizes w t obj header s r found none =
     let stamp = r.live.stamps obj header found in
     let upto = λ (k : ℕ) (a : is_among w.active k ≡ true). (s.active.launched k a).1 in
@@ -111,7 +111,7 @@ sent-at t obj lane target header after found a =
 abbrev IsNewTarget : Sizes → World → TableLists → ℕ → PoolVersions → Target → Type 0
 IsNewTarget sizes w t obj pool target = (n : ℕ) (l : Launched) → is_among w.active n ≡ true → w.launched n ≡ Some l → w.stamp obj < n → IsTargetOf (lost_at_change sizes w obj) pool obj n (l.past obj) target
 
-ready-sent : (shape : ShapeLists) (sizes : Sizes) (w : World) (t : TableLists) (obj : ℕ) (header : Header) (target : Target) (pool : PoolVersions) → IsSound shape sizes w → Represents sizes w t → slice_get t.headers obj ≡ Some header → pool.size ≡ t.pool.size → map (row_of w.active) pool.versions ≡ kept_at_change sizes w obj → All (λ kept. kept.version.upto ≤ w.epoch) pool.versions → ((kept : KeptVersion) → Contains t.pool.versions kept → Contains pool.versions kept) → IsNewTarget sizes w t obj pool target → IsReady sizes w t obj (adjust (sent target t.lanes) t.headers obj) pool
+ready-sent : (shape : ShapeLists) (sizes : Sizes) (w : World) (t : TableLists) (obj : ℕ) (header : Header) (target : Target) (pool : PoolVersions) → IsSoundWorld shape sizes w → Represents sizes w t → slice_get t.headers obj ≡ Some header → pool.size ≡ t.pool.size → map (row_of w.active) pool.versions ≡ kept_at_change sizes w obj → All (λ kept. kept.version.upto ≤ w.epoch) pool.versions → ((kept : KeptVersion) → Contains t.pool.versions kept → Contains pool.versions kept) → IsNewTarget sizes w t obj pool target → IsReady sizes w t obj (adjust (sent target t.lanes) t.headers obj) pool
 ready-sent shape sizes w t obj header target pool s r found size rows upto stays fresh =
     let stamp = r.live.stamps obj header found in
     record {
@@ -137,7 +137,7 @@ ready-sent shape sizes w t obj header target pool s r found size rows upto stays
     the_check x y e = cc
 
 -- no version of the object is lost yet for a check that was launched after its stamp
-not-lost : (shape : ShapeLists) (sizes : Sizes) (w : World) (obj n : ℕ) → IsSound shape sizes w → w.stamp obj < n → is_lost w.lost obj n ≡ false
+not-lost : (shape : ShapeLists) (sizes : Sizes) (w : World) (obj n : ℕ) → IsSoundWorld shape sizes w → w.stamp obj < n → is_lost w.lost obj n ≡ false
 not-lost shape sizes w obj n s low = cases (is_lost w.lost obj n) refl
   where
     cases : (b : Bool) → is_lost w.lost obj n ≡ b → b ≡ false
@@ -148,7 +148,7 @@ below-test : (a b : ℕ) → a < b → nat_lt a b ≡ true
 below-test a b h = grind (arith, nat_tests)
 
 -- a copy was free
-ready-copied : (shape : ShapeLists) (sizes : Sizes) (w : World) (t : TableLists) (obj : ℕ) (header : Header) (words : List ℕ) (copy : ℕ) → IsSound shape sizes w → Represents sizes w t → slice_get t.headers obj ≡ Some header → list_any (is_between header.stamp t.epoch) t.lanes ≡ true → HasWords words (heap_of t.heap obj) → length t.pool.versions < t.pool.size → copy < t.pool.size → IsReady sizes w t obj (adjust (sent (Copied copy) t.lanes) t.headers obj) (record t.pool { versions = t.pool.versions ++ kept_in obj header.stamp t.epoch words copy ∷ [] })
+ready-copied : (shape : ShapeLists) (sizes : Sizes) (w : World) (t : TableLists) (obj : ℕ) (header : Header) (words : List ℕ) (copy : ℕ) → IsSoundWorld shape sizes w → Represents sizes w t → slice_get t.headers obj ≡ Some header → list_any (is_between header.stamp t.epoch) t.lanes ≡ true → HasWords words (heap_of t.heap obj) → length t.pool.versions < t.pool.size → copy < t.pool.size → IsReady sizes w t obj (adjust (sent (Copied copy) t.lanes) t.headers obj) (record t.pool { versions = t.pool.versions ++ kept_in obj header.stamp t.epoch words copy ∷ [] })
 ready-copied shape sizes w t obj header words copy s r found some has free within_pool =
     let stamp = r.live.stamps obj header found in
     let new = kept_in obj header.stamp t.epoch words copy in
@@ -175,7 +175,7 @@ ready-copied shape sizes w t obj header words copy s r found some has free withi
     ))
 
 -- no copy was free
-ready-gone : (shape : ShapeLists) (sizes : Sizes) (w : World) (t : TableLists) (obj : ℕ) (header : Header) → IsSound shape sizes w → Represents sizes w t → slice_get t.headers obj ≡ Some header → t.pool.size ≤ length t.pool.versions → IsReady sizes w t obj (adjust (sent Gone t.lanes) t.headers obj) t.pool
+ready-gone : (shape : ShapeLists) (sizes : Sizes) (w : World) (t : TableLists) (obj : ℕ) (header : Header) → IsSoundWorld shape sizes w → Represents sizes w t → slice_get t.headers obj ≡ Some header → t.pool.size ≤ length t.pool.versions → IsReady sizes w t obj (adjust (sent Gone t.lanes) t.headers obj) t.pool
 ready-gone shape sizes w t obj header s r found full =
     let long : sizes.copies ≤ length w.kept = omega (arith, full, r.pool.size, length-map t.pool.versions (row_of w.active), ap length r.pool.rows) in
     let none = full-is sizes w long in
@@ -183,11 +183,11 @@ ready-gone shape sizes w t obj header s r found full =
     (rw none r.pool.rows)
     r.pool.upto
     (λ kept c. c)
-    (λ n l a g low. rw none (is_lost-back w.lost (map (λ k. record { obj = obj; check = k }) (needing_in w obj)) obj n (pairs-is_lost obj (needing_in w obj) n (filter-is_among (λ k. nat_lt (w.stamp obj) k) w.active n a (below-test (w.stamp obj) n low)))))
+    (λ n l a g low. rw none (lost_in_back w.lost (map (λ k. record { obj = obj; check = k }) (needing_in w obj)) obj n (pairs_are_lost obj (needing_in w obj) n (passing_is_among (λ k. nat_lt (w.stamp obj) k) w.active n a (below-test (w.stamp obj) n low)))))
 
 -- ---- the change
 
-represents-ready : (shape : ShapeLists) (sizes : Sizes) (w : World) (t : TableLists) (obj field value : ℕ) (heap : List (Option Object)) (headers : List Header) (pool : PoolVersions) → IsSound shape sizes w → Represents sizes w t → IsReady sizes w t obj headers pool → heap_of heap ≡ with_word (heap_of t.heap) obj field value → length heap ≡ length t.heap → Represents sizes (changed sizes w obj field value) (record t { heap = heap; headers = adjust (stamped t.epoch) headers obj; pool = pool })
+represents-ready : (shape : ShapeLists) (sizes : Sizes) (w : World) (t : TableLists) (obj field value : ℕ) (heap : List (Option Object)) (headers : List Header) (pool : PoolVersions) → IsSoundWorld shape sizes w → Represents sizes w t → IsReady sizes w t obj headers pool → heap_of heap ≡ with_word (heap_of t.heap) obj field value → length heap ≡ length t.heap → Represents sizes (changed sizes w obj field value) (record t { heap = heap; headers = adjust (stamped t.epoch) headers obj; pool = pool })
 represents-ready shape sizes w t obj field value heap headers pool s r k e room = record {
   live = record {
     heap = e ∙ ap (λ (h : Heap). with_word h obj field value) r.live.heap;
@@ -195,8 +195,8 @@ represents-ready shape sizes w t obj field value heap headers pool s r k e room 
     header_room = length-adjust (stamped t.epoch) headers obj ∙ k.room ∙ r.live.header_room;
     stamps = λ o h f. elim (eqb_tells o obj) [
       | inl y ↦ (let b = adjust-found (stamped t.epoch) headers obj h (ap (slice_get (adjust (stamped t.epoch) headers obj)) (sym y.1) ∙ f) in
-          ap (λ (x : Header). x.stamp) b.2 ∙ r.live.epoch ∙ sym (at-same obj w.epoch w.stamp) ∙ ap (at obj w.epoch w.stamp) (sym y.1))
-      | inr n ↦ r.live.stamps o h (sym (k.others o n.1) ∙ sym (adjust-other (stamped t.epoch) headers obj o n.1) ∙ f) ∙ sym (at-other obj w.epoch w.stamp o n.1)
+          ap (λ (x : Header). x.stamp) b.2 ∙ r.live.epoch ∙ sym (at_same obj w.epoch w.stamp) ∙ ap (at obj w.epoch w.stamp) (sym y.1))
+      | inr n ↦ r.live.stamps o h (sym (k.others o n.1) ∙ sym (adjust-other (stamped t.epoch) headers obj o n.1) ∙ f) ∙ sym (at_other obj w.epoch w.stamp o n.1)
     ];
     made_room = r.live.made_room;
     made = r.live.made;
@@ -212,9 +212,9 @@ represents-ready shape sizes w t obj field value heap headers pool s r k e room 
     versions = λ o lane n f l g h stood a. let b = forward-stamped t.epoch headers obj o lane f a in elim (eqb_tells o obj) [
       | inl y ↦ (let sent = k.sent_all lane n f l g h (subst (λ (i : ℕ). IsSome (l.past i)) y.1 stood) (moved o lane f y.1 b) in
           let active = s.active.launched n (r.lanes.are_active lane n g) in
-          subst (λ (i : ℕ). IsForwardOf (at obj w.epoch w.stamp i) (lost_at_change sizes w obj) pool i n (l.past i) f) (sym y.1) (subst (λ (stamp : ℕ). IsForwardOf stamp (lost_at_change sizes w obj) pool obj n (l.past obj) f) (sym (at-same obj w.epoch w.stamp)) (record { forwarded = λ _. (active.1, sent.1); live = λ ne. absurd (ne sent.0) })))
+          subst (λ (i : ℕ). IsForwardOf (at obj w.epoch w.stamp i) (lost_at_change sizes w obj) pool i n (l.past i) f) (sym y.1) (subst (λ (stamp : ℕ). IsForwardOf stamp (lost_at_change sizes w obj) pool obj n (l.past obj) f) (sym (at_same obj w.epoch w.stamp)) (record { forwarded = λ _. (active.1, sent.1); live = λ ne. absurd (ne sent.0) })))
       | inr ne ↦ (let v = r.forwards.versions o lane n f l g h stood (other o lane f ne.1 b) in
-          subst (λ (stamp : ℕ). IsForwardOf stamp (lost_at_change sizes w obj) pool o n (l.past o) f) (sym (at-other obj w.epoch w.stamp o ne.1)) (record { forwarded = λ q. let fw = v.forwarded q in (fw.0, target-kept w.lost (lost_at_change sizes w obj) t.pool pool o n (l.past o) f.target (lost-other sizes w obj o n (inl ne.1)) k.same_size (λ kept low high c. k.stays kept c) fw.1); live = v.live }))
+          subst (λ (stamp : ℕ). IsForwardOf stamp (lost_at_change sizes w obj) pool o n (l.past o) f) (sym (at_other obj w.epoch w.stamp o ne.1)) (record { forwarded = λ q. let fw = v.forwarded q in (fw.0, target-kept w.lost (lost_at_change sizes w obj) t.pool pool o n (l.past o) f.target (lost-other sizes w obj o n (inl ne.1)) k.same_size (λ kept low high c. k.stays kept c) fw.1); live = v.live }))
     ];
   };
 }
@@ -229,7 +229,7 @@ represents-ready shape sizes w t obj field value heap headers pool s r k e room 
 frame : (t x y : TableLists) → x ≡ y → y ≡ record t { headers = y.headers; pool = y.pool } → x ≡ record t { headers = x.headers; pool = x.pool }
 frame t x y e f = e ∙ f ∙ ap (λ (z : TableLists). record t { headers = z.headers; pool = z.pool }) (sym e)
 
-ready-for : (shape : ShapeLists) (sizes : Sizes) (w : World) (t b : TableLists) (obj : ℕ) (header : Header) → IsSound shape sizes w → Represents sizes w t → slice_get t.headers obj ≡ Some header → (k : KeepsFor t b obj header) (target : Target) → k.target ≡ target → Keeps t.pool b.pool obj header.stamp t.epoch k.words target → IsReady sizes w t obj b.headers b.pool
+ready-for : (shape : ShapeLists) (sizes : Sizes) (w : World) (t b : TableLists) (obj : ℕ) (header : Header) → IsSoundWorld shape sizes w → Represents sizes w t → slice_get t.headers obj ≡ Some header → (k : KeepsFor t b obj header) (target : Target) → k.target ≡ target → Keeps t.pool b.pool obj header.stamp t.epoch k.words target → IsReady sizes w t obj b.headers b.pool
 ready-for shape sizes w t b obj header s r found k (Copied copy) e h =
     let headers : b.headers ≡ adjust (sent (Copied copy) t.lanes) t.headers obj = ap (λ (x : TableLists). x.headers) k.rest ∙ ap (λ (x : Target). adjust (sent x t.lanes) t.headers obj) e in
     subst (λ (hs : List Header). IsReady sizes w t obj hs b.pool) (sym headers) (subst (λ (p : PoolVersions). IsReady sizes w t obj (adjust (sent (Copied copy) t.lanes) t.headers obj) p) (sym h.2) (ready-copied shape sizes w t obj header k.words copy s r found k.needed k.has h.0 h.1))
@@ -237,13 +237,13 @@ ready-for shape sizes w t b obj header s r found k Gone e h =
     let headers : b.headers ≡ adjust (sent Gone t.lanes) t.headers obj = ap (λ (x : TableLists). x.headers) k.rest ∙ ap (λ (x : Target). adjust (sent x t.lanes) t.headers obj) e in
     subst (λ (hs : List Header). IsReady sizes w t obj hs b.pool) (sym headers) (subst (λ (p : PoolVersions). IsReady sizes w t obj (adjust (sent Gone t.lanes) t.headers obj) p) (sym h.1) (ready-gone shape sizes w t obj header s r found h.0))
 
-ready : (shape : ShapeLists) (sizes : Sizes) (w : World) (t b : TableLists) (obj : ℕ) → IsSound shape sizes w → Represents sizes w t → KeepsVersion t b obj → (b ≡ record t { headers = b.headers; pool = b.pool }) × IsReady sizes w t obj b.headers b.pool
+ready : (shape : ShapeLists) (sizes : Sizes) (w : World) (t b : TableLists) (obj : ℕ) → IsSoundWorld shape sizes w → Represents sizes w t → KeepsVersion t b obj → (b ≡ record t { headers = b.headers; pool = b.pool }) × IsReady sizes w t obj b.headers b.pool
 ready shape sizes w t b obj s r k = elim k.cases [
   | inl y ↦ (frame t b (record t { pool = b.pool; headers = adjust (sent y.target t.lanes) t.headers obj }) y.rest refl, ready-for shape sizes w t b obj k.header s r k.found y y.target refl y.kept)
   | inr n ↦ (frame t b t n.1 refl, subst (λ (x : TableLists). IsReady sizes w t obj x.headers x.pool) (sym n.1) (ready-unneeded shape sizes w t obj k.header s r k.found n.0))
 ]
 
-pub represents-change : (shape : ShapeLists) (sizes : Sizes) (w : World) (t t' : TableLists) (obj field value : ℕ) → IsSound shape sizes w → Represents sizes w t → Changes t t' obj field value → Represents sizes (changed sizes w obj field value) t'
+pub represents-change : (shape : ShapeLists) (sizes : Sizes) (w : World) (t t' : TableLists) (obj field value : ℕ) → IsSoundWorld shape sizes w → Represents sizes w t → Changes t t' obj field value → Represents sizes (changed sizes w obj field value) t'
 represents-change shape sizes w t t' obj field value s r c =
     let b = c.between in
     let k = ready shape sizes w t b obj s r c.version in

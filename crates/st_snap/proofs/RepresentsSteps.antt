@@ -12,8 +12,8 @@ use Rattle.st_events.specs.declared.limits.Sizes.{Sizes}
 use Rattle.st_events.specs.Shape.{ShapeLists}
 use Rattle.st_events.specs.Heap.{Heap, with_object, fresh}
 use Rattle.st_events.specs.World.{World, Launched, next, first_world, at, without, released}
-use Rattle.st_events.specs.Sound.{IsSound}
-use Rattle.st_events.proofs.WorldLemmas.{at-same, at-other}
+use Rattle.st_events.specs.Sound.{IsSoundWorld}
+use Rattle.st_events.proofs.WorldLemmas.{at_same, at_other}
 use Rattle.st_events.specs.LegalEvents.{LegalNew}
 use Rattle.st_events.proofs.SoundHeap.{next_is_absent}
 use Rattle.st_snap.specs.declared.headers.Header.{Header}
@@ -64,14 +64,14 @@ represents-first shape sizes t f = record {
 -- ---- a new object
 
 -- it stood in no heap of a launch
-not-past : (shape : ShapeLists) (sizes : Sizes) (w : World) (obj n : ℕ) (l : Launched) → IsSound shape sizes w → w.heap obj ≡ None → w.launched n ≡ Some l → IsSome (l.past obj) → ⊥
+not-past : (shape : ShapeLists) (sizes : Sizes) (w : World) (obj n : ℕ) (l : Launched) → IsSoundWorld shape sizes w → w.heap obj ≡ None → w.launched n ≡ Some l → IsSome (l.past obj) → ⊥
 not-past shape sizes w obj n l s none e stood =
     let first = s.launches.only n l e in
     let stamp = s.stamps.unmade obj none in
     let past : l.past obj ≡ None = s.pasts.same obj n l e (omega (arith, stamp, first)) ∙ none in
     let h = rw past at stood in cc
 
-pub represents-new : (shape : ShapeLists) (sizes : Sizes) (w : World) (t t' : TableLists) (m obj class : ℕ) → IsSound shape sizes w → LegalNew shape sizes w m obj class → Represents sizes w t → Makes shape sizes.objects t t' m class obj → Represents sizes (next shape sizes w (New m obj class)) t'
+pub represents-new : (shape : ShapeLists) (sizes : Sizes) (w : World) (t t' : TableLists) (m obj class : ℕ) → IsSoundWorld shape sizes w → LegalNew shape sizes w m obj class → Represents sizes w t → Makes shape sizes.objects t t' m class obj → Represents sizes (next shape sizes w (New m obj class)) t'
 represents-new shape sizes w t t' m obj class s l r k = subst (λ (x : TableLists). Represents sizes (next shape sizes w (New m obj class)) x) (sym k.rest) (record {
   live = record {
     heap = k.heap ∙ ap (λ (h : Heap). with_object h obj (fresh shape class)) r.live.heap;
@@ -79,14 +79,14 @@ represents-new shape sizes w t t' m obj class s l r k = subst (λ (x : TableList
     header_room = length-adjust (stamped t.epoch) t.headers obj ∙ r.live.header_room;
     stamps = λ o h e. elim (eqb_tells o obj) [
       | inl y ↦ (let b = adjust-found (stamped t.epoch) t.headers obj h (ap (slice_get (adjust (stamped t.epoch) t.headers obj)) (sym y.1) ∙ e) in
-          ap (λ (x : Header). x.stamp) b.2 ∙ r.live.epoch ∙ sym (at-same obj w.epoch w.stamp) ∙ ap (at obj w.epoch w.stamp) (sym y.1))
-      | inr n ↦ r.live.stamps o h (sym (adjust-other (stamped t.epoch) t.headers obj o n.1) ∙ e) ∙ sym (at-other obj w.epoch w.stamp o n.1)
+          ap (λ (x : Header). x.stamp) b.2 ∙ r.live.epoch ∙ sym (at_same obj w.epoch w.stamp) ∙ ap (at obj w.epoch w.stamp) (sym y.1))
+      | inr n ↦ r.live.stamps o h (sym (adjust-other (stamped t.epoch) t.headers obj o n.1) ∙ e) ∙ sym (at_other obj w.epoch w.stamp o n.1)
     ];
     made_room = length-set t.made m (k.count + 1) ∙ r.live.made_room;
     made = λ i count e. elim (eqb_tells i m) [
       | inl y ↦ (let one : k.count + 1 ≡ count = same (k.count + 1) count (sym (set-same t.made m (k.count + 1) (slice_get_within t.made m k.count k.found)) ∙ ap (slice_get (slice_set t.made m (k.count + 1))) (sym y.1) ∙ e) in
-          sym one ∙ ap (λ n. n + 1) (r.live.made m k.count k.found) ∙ sym (at-same m (w.made m + 1) w.made) ∙ ap (at m (w.made m + 1) w.made) (sym y.1))
-      | inr n ↦ r.live.made i count (sym (set-other t.made m (k.count + 1) i (slice_get_within t.made m k.count k.found) n.1) ∙ e) ∙ sym (at-other m (w.made m + 1) w.made i n.1)
+          sym one ∙ ap (λ n. n + 1) (r.live.made m k.count k.found) ∙ sym (at_same m (w.made m + 1) w.made) ∙ ap (at m (w.made m + 1) w.made) (sym y.1))
+      | inr n ↦ r.live.made i count (sym (set-other t.made m (k.count + 1) i (slice_get_within t.made m k.count k.found) n.1) ∙ e) ∙ sym (at_other m (w.made m + 1) w.made i n.1)
     ];
     epoch = r.live.epoch;
   };
@@ -96,7 +96,7 @@ represents-new shape sizes w t t' m obj class s l r k = subst (λ (x : TableList
     epochs = λ o lane f a. r.forwards.epochs o lane f (forward-stamped t.epoch t.headers obj o lane f a);
     versions = λ o lane n f lc e g stood a. elim (eqb_tells o obj) [
       | inl y ↦ absurd (not-past shape sizes w obj n lc s (next_is_absent shape sizes w m obj class s.regions l) g (subst (λ (i : ℕ). IsSome (lc.past i)) y.1 stood))
-      | inr ne ↦ subst (λ (stamp : ℕ). IsForwardOf stamp w.lost t.pool o n (lc.past o) f) (sym (at-other obj w.epoch w.stamp o ne.1)) (r.forwards.versions o lane n f lc e g stood (forward-stamped t.epoch t.headers obj o lane f a))
+      | inr ne ↦ subst (λ (stamp : ℕ). IsForwardOf stamp w.lost t.pool o n (lc.past o) f) (sym (at_other obj w.epoch w.stamp o ne.1)) (r.forwards.versions o lane n f lc e g stood (forward-stamped t.epoch t.headers obj o lane f a))
     ];
   };
 })
@@ -106,7 +106,7 @@ represents-new shape sizes w t t' m obj class s l r k = subst (λ (x : TableList
 
 -- ---- a launch
 
-pub represents-launch : (shape : ShapeLists) (sizes : Sizes) (w : World) (t : TableLists) (m n site i : ℕ) (args : Args) → IsSound shape sizes w → n ≡ w.epoch + 1 → slice_get t.lanes i ≡ Some None → Represents sizes w t → Represents sizes (next shape sizes w (Launch m site n args)) (record t { epoch = n; lanes = slice_set t.lanes i (Some n) })
+pub represents-launch : (shape : ShapeLists) (sizes : Sizes) (w : World) (t : TableLists) (m n site i : ℕ) (args : Args) → IsSoundWorld shape sizes w → n ≡ w.epoch + 1 → slice_get t.lanes i ≡ Some None → Represents sizes w t → Represents sizes (next shape sizes w (Launch m site n args)) (record t { epoch = n; lanes = slice_set t.lanes i (Some n) })
 represents-launch shape sizes w t m n site i args s number idle r = record {
   live = record {
     heap = r.live.heap;
@@ -133,7 +133,7 @@ represents-launch shape sizes w t m n site i args s number idle r = record {
           })
       | inr ne ↦ (let old = sym (set-other t.lanes i (Some n) lane (slice_get_within t.lanes i None idle) ne.1) ∙ e in
           let active = s.active.launched k (r.lanes.are_active lane k old) in
-          r.forwards.versions o lane k f l old (sym (at-other n (Some (record { past = w.heap; thread = m; site = site; args = args })) w.launched k (λ h. omega (arith, active, h, number))) ∙ g) stood a)
+          r.forwards.versions o lane k f l old (sym (at_other n (Some (record { past = w.heap; thread = m; site = site; args = args })) w.launched k (λ h. omega (arith, active, h, number))) ∙ g) stood a)
     ];
   };
 }
@@ -143,7 +143,7 @@ represents-launch shape sizes w t m n site i args s number idle r = record {
 
 -- ---- a retire
 
-pub represents-retire : (shape : ShapeLists) (sizes : Sizes) (w : World) (t : TableLists) (m n i : ℕ) → IsSound shape sizes w → slice_get t.lanes i ≡ Some (Some n) → Represents sizes w t → Represents sizes (next shape sizes w (Retire m n)) (retired_at t i)
+pub represents-retire : (shape : ShapeLists) (sizes : Sizes) (w : World) (t : TableLists) (m n i : ℕ) → IsSoundWorld shape sizes w → slice_get t.lanes i ≡ Some (Some n) → Represents sizes w t → Represents sizes (next shape sizes w (Retire m n)) (retired_at t i)
 represents-retire shape sizes w t m n i s here r =
     let lanes = AreLanes-retire sizes w.active t.lanes i n r.lanes s.active.rising here in
     record {

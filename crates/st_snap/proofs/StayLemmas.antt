@@ -11,12 +11,12 @@ use Rattle.st_events.specs.Shape.{ShapeLists, IsWithinLimits}
 use Rattle.st_events.specs.Heap.{Heap, Object, word_of, word_at, with_object, with_word, set_word, fresh}
 use Rattle.st_events.specs.World.{World, Launched, next}
 use Rattle.st_events.specs.Legal.{IsLegalNext}
-use Rattle.st_events.specs.Sound.{IsSound}
-use Rattle.st_events.proofs.WorldLemmas.{world_after-snoc, at-other}
-use Rattle.st_events.proofs.LegalLemmas.{IsLegal-prefix, IsLegal-rest}
+use Rattle.st_events.specs.Sound.{IsSoundWorld}
+use Rattle.st_events.proofs.WorldLemmas.{world_after_one_more, at_other}
+use Rattle.st_events.proofs.LegalLemmas.{prefix_is_legal, rest_is_legal}
 use Rattle.st_events.proofs.LegalEvents.{legal_new, legal_launch}
-use Rattle.st_events.proofs.SoundHeap.{with_object-other, with_word-same, with_word-other, next_is_absent}
-use Rattle.st_events.proofs.SoundLemmas.{sound_after}
+use Rattle.st_events.proofs.SoundHeap.{object_put_elsewhere, word_set_here, word_set_elsewhere, next_is_absent}
+use Rattle.st_events.proofs.SoundLemmas.{legal_is_sound}
 use Rattle.st_snap.specs.Snapshots.{Snapshots, world_of, with_event, IsLegalHeap, HasCell, HadCell, word_then}
 
 -- a word that was set still stands
@@ -30,17 +30,17 @@ word-set (Some x) field value f some = found (slice_get x.words f) refl some
 
 cell-set : (heap : Heap) (obj field value o f : ℕ) → IsSome (word_at heap o f) → IsSome (word_at (with_word heap obj field value) o f)
 cell-set heap obj field value o f some = elim (eqb_tells o obj) [
-  | inl y ↦ subst (λ (i : ℕ). IsSome (word_at (with_word heap obj field value) i f)) (sym y.1) (rw (with_word-same heap obj field value) (word-set (heap obj) field value f (subst (λ (i : ℕ). IsSome (word_at heap i f)) y.1 some)))
-  | inr n ↦ rw (with_word-other heap obj field value o n.1) some
+  | inl y ↦ subst (λ (i : ℕ). IsSome (word_at (with_word heap obj field value) i f)) (sym y.1) (rw (word_set_here heap obj field value) (word-set (heap obj) field value f (subst (λ (i : ℕ). IsSome (word_at heap i f)) y.1 some)))
+  | inr n ↦ rw (word_set_elsewhere heap obj field value o n.1) some
 ]
 
 cell-new : (heap : Heap) (obj : ℕ) (x : Object) (o f : ℕ) → heap obj ≡ None → IsSome (word_at heap o f) → IsSome (word_at (with_object heap obj x) o f)
 cell-new heap obj x o f none some = elim (eqb_tells o obj) [
   | inl y ↦ (let gone = rw (y.1, none) at some in cc)
-  | inr n ↦ rw (with_object-other heap obj x o n.1) some
+  | inr n ↦ rw (object_put_elsewhere heap obj x o n.1) some
 ]
 
-cell-next : (shape : ShapeLists) (sizes : Sizes) (w : World) (e : Event) (o f : ℕ) → IsSound shape sizes w → IsLegalNext shape sizes w e → IsSome (word_at w.heap o f) → IsSome (word_at (next shape sizes w e).heap o f)
+cell-next : (shape : ShapeLists) (sizes : Sizes) (w : World) (e : Event) (o f : ℕ) → IsSoundWorld shape sizes w → IsLegalNext shape sizes w e → IsSome (word_at w.heap o f) → IsSome (word_at (next shape sizes w e).heap o f)
 cell-next shape sizes w (New m obj class) o f s l some = cell-new w.heap obj (fresh shape class) o f (next_is_absent shape sizes w m obj class s.regions (legal_new shape sizes w m obj class l)) some
 cell-next shape sizes w (Load m obj field value) o f s l some = some
 cell-next shape sizes w (Store m obj field value) o f s l some = cell-set w.heap obj field value o f some
@@ -49,24 +49,24 @@ cell-next shape sizes w (Cas m obj field expect value false) o f s l some = some
 cell-next shape sizes w (Launch m site number args) o f s l some = some
 cell-next shape sizes w (Retire m number) o f s l some = some
 
-launched-next : (shape : ShapeLists) (sizes : Sizes) (w : World) (e : Event) (n : ℕ) (k : Launched) → IsSound shape sizes w → IsLegalNext shape sizes w e → w.launched n ≡ Some k → (next shape sizes w e).launched n ≡ Some k
+launched-next : (shape : ShapeLists) (sizes : Sizes) (w : World) (e : Event) (n : ℕ) (k : Launched) → IsSoundWorld shape sizes w → IsLegalNext shape sizes w e → w.launched n ≡ Some k → (next shape sizes w e).launched n ≡ Some k
 launched-next shape sizes w (New m obj class) n k s l h = h
 launched-next shape sizes w (Load m obj field value) n k s l h = h
 launched-next shape sizes w (Store m obj field value) n k s l h = h
 launched-next shape sizes w (Cas m obj field expect value true) n k s l h = h
 launched-next shape sizes w (Cas m obj field expect value false) n k s l h = h
-launched-next shape sizes w (Launch m site number args) n k s l h = at-other number (Some (record { past = w.heap; thread = m; site = site; args = args })) w.launched n (λ e. omega (arith, e, (s.launches.only n k h).1, (legal_launch shape sizes w m number site args l).next_number)) ∙ h
+launched-next shape sizes w (Launch m site number args) n k s l h = at_other number (Some (record { past = w.heap; thread = m; site = site; args = args })) w.launched n (λ e. omega (arith, e, (s.launches.only n k h).1, (legal_launch shape sizes w m number site args l).next_number)) ∙ h
 launched-next shape sizes w (Retire m number) n k s l h = h
 
 -- what is known before an event
-before : (s : Snapshots) (e : Event) → IsWithinLimits s.shape → IsLegalHeap (with_event s e) → IsSound s.shape s.sizes (world_of s) × IsLegalNext s.shape s.sizes (world_of s) e
-before s e fits legal = (sound_after s.shape s.sizes fits s.journal (IsLegal-prefix s.shape s.sizes s.journal (e ∷ []) legal), (IsLegal-rest s.shape s.sizes s.journal (e ∷ []) legal).0)
+before : (s : Snapshots) (e : Event) → IsWithinLimits s.shape → IsLegalHeap (with_event s e) → IsSoundWorld s.shape s.sizes (world_of s) × IsLegalNext s.shape s.sizes (world_of s) e
+before s e fits legal = (legal_is_sound s.shape s.sizes fits s.journal (prefix_is_legal s.shape s.sizes s.journal (e ∷ []) legal), (rest_is_legal s.shape s.sizes s.journal (e ∷ []) legal).0)
 
 -- a cell stays
 pub cell-stays : (s : Snapshots) (e : Event) (obj field : ℕ) → IsWithinLimits s.shape → IsLegalHeap (with_event s e) → HasCell s obj field → HasCell (with_event s e) obj field
 cell-stays s e obj field fits legal cell =
     let b = before s e fits legal in
-    subst (λ (w : World). IsSome (word_at w.heap obj field)) (sym (world_after-snoc s.shape s.sizes s.journal e)) (cell-next s.shape s.sizes (world_of s) e obj field b.0 b.1 cell)
+    subst (λ (w : World). IsSome (word_at w.heap obj field)) (sym (world_after_one_more s.shape s.sizes s.journal e)) (cell-next s.shape s.sizes (world_of s) e obj field b.0 b.1 cell)
 
 -- what stood at a launch is known from then on
 pub past-stays : (s : Snapshots) (e : Event) (number obj field : ℕ) → IsWithinLimits s.shape → IsLegalHeap (with_event s e) → HadCell s number obj field → HadCell (with_event s e) number obj field
@@ -77,4 +77,4 @@ past-stays s e number obj field fits legal had = cases ((world_of s).launched nu
     cases (Some k) h i =
         let b = before s e fits legal in
         let same = launched-next s.shape s.sizes (world_of s) e number k b.0 b.1 h in
-        subst (λ (w : World). IsSome (word_then (w.launched number) obj field)) (sym (world_after-snoc s.shape s.sizes s.journal e)) (rw same i)
+        subst (λ (w : World). IsSome (word_then (w.launched number) obj field)) (sym (world_after_one_more s.shape s.sizes s.journal e)) (rw same i)

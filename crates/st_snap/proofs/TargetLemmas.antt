@@ -5,9 +5,9 @@ use Rattle.std.proofs.lemmas.Bool.Decides.{eqb_tells}
 use Rattle.st_events.specs.declared.limits.Sizes.{Sizes}
 use Rattle.st_events.specs.Heap.{Object}
 use Rattle.st_events.specs.World.{World, Pair, is_lost, is_full, needing_in, lost_at_change}
-use Rattle.st_events.proofs.AmongLemmas.{is_among-filter}
+use Rattle.st_events.proofs.AmongLemmas.{among_passing}
 use Rattle.st_events.proofs.LegalEvents.{is_below}
-use Rattle.st_events.proofs.KeptLemmas.{is_lost-append, is_lost-front, is_lost-pairs}
+use Rattle.st_events.proofs.KeptLemmas.{lost_in_either, lost_in_front, lost_by_pairs}
 use Rattle.st_snap.specs.declared.headers.Forward.{Forward}
 use Rattle.st_snap.specs.declared.headers.Header.{Header}
 use Rattle.st_snap.specs.declared.headers.Target.{Target}
@@ -29,15 +29,15 @@ lost-other sizes w obj o n other = cases (is_full sizes w)
   where
     not_lost : is_lost (map (λ k. record { obj = obj; check = k }) (needing_in w obj)) o n ≡ true → ⊥
     not_lost h =
-        let p = is_lost-pairs obj (needing_in w obj) o n h in
-        let above = is_below (w.stamp obj) n (is_among-filter (λ k. nat_lt (w.stamp obj) k) w.active n p.1).1 in
+        let p = lost_by_pairs obj (needing_in w obj) o n h in
+        let above = is_below (w.stamp obj) n (among_passing (λ k. nat_lt (w.stamp obj) k) w.active n p.1).1 in
         elim other [ inl ne ↦ ne (sym p.0) | inr le ↦ omega (arith, above, le) ]
 
     cases : (b : Bool) → is_lost (cond b (w.lost ++ map (λ k. record { obj = obj; check = k }) (needing_in w obj)) w.lost) o n ≡ is_lost w.lost o n
     cases false = refl
     cases true = bool_same (is_lost (w.lost ++ map (λ k. record { obj = obj; check = k }) (needing_in w obj)) o n) (is_lost w.lost o n)
-        (λ h. elim (is_lost-append w.lost (map (λ k. record { obj = obj; check = k }) (needing_in w obj)) o n h) [ inl l ↦ l | inr r ↦ absurd (not_lost r) ])
-        (λ h. is_lost-front w.lost (map (λ k. record { obj = obj; check = k }) (needing_in w obj)) o n h)
+        (λ h. elim (lost_in_either w.lost (map (λ k. record { obj = obj; check = k }) (needing_in w obj)) o n h) [ inl l ↦ l | inr r ↦ absurd (not_lost r) ])
+        (λ h. lost_in_front w.lost (map (λ k. record { obj = obj; check = k }) (needing_in w obj)) o n h)
 
 -- a stamp changes no forwarding word
 pub forward-stamped : (epoch : ℕ) (headers : List Header) (obj o lane : ℕ) (f : Forward) → IsForwardAt (adjust (stamped epoch) headers obj) o lane f → IsForwardAt headers o lane f

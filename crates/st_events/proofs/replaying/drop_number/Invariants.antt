@@ -1,5 +1,5 @@
 use Rattle.std.proofs.Common.{◌≡◌, vec_len}
-use Rattle.st_events.specs.World.{without}
+use Rattle.st_events.specs.Terms.{without}
 use Rattle.st_events.proofs.replaying.drop_number.Given as goal
 
 abbrev pub invariant-loop-place : goal.invariant-loop-place

@@ -1,5 +1,5 @@
 use Rattle.std.proofs.Common.{◌≡◌, drop}
-use Rattle.st_events.specs.Heap.{heap_of}
+use Rattle.st_events.specs.Terms.{heap_of}
 use Rattle.st_events.specs.Legal.{have_kinds}
 use Rattle.st_events.proofs.replaying.Replay.have_kinds.Given as goal
 

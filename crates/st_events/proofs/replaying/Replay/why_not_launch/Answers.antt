@@ -1,7 +1,6 @@
 use Rattle.std.proofs.Common.{◌≡◌, ◌<◌, ◌+◌, sym, length, true, Some, refl, arith}
 use Rattle.std.proofs.lemmas.Option.{slice_get_within}
-use Rattle.st_events.specs.Heap.{heap_of}
-use Rattle.st_events.specs.Legal.{args_fit}
+use Rattle.st_events.specs.Terms.{heap_of, args_fit}
 use Rattle.st_events.proofs.ReplayLemmas.{below_true, same_true}
 use Rattle.st_events.proofs.replaying.Replay.why_not_launch.Goals as goal
 
@@ -12,4 +11,11 @@ returns c =
     let number : c.args.number ≡ c.args.self.now.launches + 1 = omega arith in
     let fits : args_fit (heap_of c.args.self.now.heap) (Some c.in-Some.kinds.now) c.args.args ≡ true = sym c.if-not-args_fit.ensures in
     let lane : length c.args.self.now.active.items < c.args.self.now.sizes.now.lanes = omega (arith, c.args.self.now.active.ok.0) in
-    rw (thread, same_true c.args.number (c.args.self.now.launches + 1) number, below_true c.args.site (length c.args.self.now.shape.now.checks) there, ← c.in-Some.ensures, fits, below_true (length c.args.self.now.active.items) c.args.self.now.sizes.now.lanes lane) refl
+    rw (
+      thread,
+      same_true c.args.number (c.args.self.now.launches + 1) number,
+      below_true c.args.site (length c.args.self.now.shape.now.checks) there,
+      ← c.in-Some.ensures,
+      fits,
+      below_true (length c.args.self.now.active.items) c.args.self.now.sizes.now.lanes lane,
+    ) refl
