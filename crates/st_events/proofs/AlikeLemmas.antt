@@ -5,7 +5,7 @@ use Rattle.std.proofs.lemmas.List.{take_more, length-take-le, take-append-drop, 
 use Rattle.std.proofs.Math.Seq.{drop-cons}
 use Rattle.st_events.specs.Terms.{Event, New, Load, Store, Cas, Launch, Retire, Sizes, ShapeLists, Heap, with_object, with_word, fresh, World, first_world}
 use Rattle.st_events.specs.Terms.{next, world_after, at, without, illegal_reason, IsLegal, heap_after}
-use Rattle.st_events.specs.declared.reasons.Why.{Why}
+use Rattle.st_events.specs.declared.errors.Why.{Why}
 use Rattle.st_events.specs.Legal.{IsFirstIllegal}
 use Rattle.st_events.specs.Seen.{LooksAlike}
 use Rattle.st_events.proofs.WorldLemmas.{world_after_one_more}

@@ -3,8 +3,9 @@
 use Rattle.std.proofs.Common.{◌≡◌, ℕ, true, false, List, [], ◌∷◌, Option, Some, None, refl}
 use Rattle.std.specs.Option.{option_map}
 use Rattle.st_events.specs.Terms.{Event, New, Load, Store, Cas, Launch, Retire, Sizes, ShapeLists, word_at, Launched, world_after, first_world, illegal_reason}
-use Rattle.st_events.specs.Terms.{heap_after, epoch_of, stamp_of, active_checks, needing, kept_rows, lost_pairs, launch_of, own_events, objects_of}
-use Rattle.st_events.specs.declared.reasons.Why.TheVariants.{NoLane, WrongField}
+use Rattle.st_events.specs.Terms.{heap_after, epoch_of, stamp_of, active_checks, needing, kept_rows, lost_pairs, launch_of, own_events, objects_of, has_launch}
+use Rattle.st_events.specs.History.{made_by}
+use Rattle.st_events.specs.declared.errors.Why.TheVariants.{NoLane, WrongField}
 use Rattle.st_events.specs.declared.shapes.Kind.TheVariants.{Int}
 
 -- one shared number, a class of one number, and a check without arguments
@@ -49,6 +50,40 @@ lost_after_retire = refl
 
 none_kept_after_retire : kept_rows shape (sizes 1) (New 0 2 1 ∷ launch 1 ∷ Store 0 1 0 5 ∷ Store 0 2 0 6 ∷ Retire 0 1 ∷ []) ≡ []
 none_kept_after_retire = refl
+
+-- a copy that a Retire gave back is given again
+copy_given_again :
+    kept_rows shape (sizes 1) (launch 1 ∷ Store 0 1 0 5 ∷ Retire 0 1 ∷ launch 2 ∷ Store 0 1 0 6 ∷ []) ≡ record { obj = 1; checks = 2 ∷ [] } ∷ []
+copy_given_again = refl
+
+none_lost_with_it : lost_pairs shape (sizes 1) (launch 1 ∷ Store 0 1 0 5 ∷ Retire 0 1 ∷ launch 2 ∷ Store 0 1 0 6 ∷ []) ≡ []
+none_lost_with_it = refl
+
+-- without copies each change loses its version for each check that needs it, and once
+both_lost :
+    lost_pairs shape (sizes 0) (launch 1 ∷ launch 2 ∷ Store 0 1 0 5 ∷ Store 0 1 0 6 ∷ [])
+    ≡ record { obj = 1; check = 1 } ∷ record { obj = 1; check = 2 } ∷ []
+both_lost = refl
+
+none_kept_of_no_copies : kept_rows shape (sizes 0) (launch 1 ∷ launch 2 ∷ Store 0 1 0 5 ∷ []) ≡ []
+none_kept_of_no_copies = refl
+
+-- a Store of the word that is there is a change: it keeps the version, and makes the stamp the epoch
+equal_store_keeps : kept_rows shape (sizes 4) (launch 1 ∷ Store 0 1 0 0 ∷ []) ≡ record { obj = 1; checks = 1 ∷ [] } ∷ []
+equal_store_keeps = refl
+
+equal_store_stamps : stamp_of shape (sizes 4) (launch 1 ∷ Store 0 1 0 0 ∷ []) 1 ≡ 1
+equal_store_stamps = refl
+
+-- a Retire is at one place, of one thread; a check is then launched, and not active
+retired_by_main : active_checks shape (sizes 4) (launch 1 ∷ Retire 1 1 ∷ []) ≡ []
+retired_by_main = refl
+
+has_its_launch : has_launch 1 (New 0 2 1 ∷ launch 1 ∷ Retire 1 1 ∷ []) ≡ true
+has_its_launch = refl
+
+has_no_launch : has_launch 2 (New 0 2 1 ∷ launch 1 ∷ Retire 1 1 ∷ []) ≡ false
+has_no_launch = refl
 
 -- the heap is the live one
 live_word : word_at (heap_after shape (sizes 1) (New 0 2 1 ∷ launch 1 ∷ Store 0 1 0 5 ∷ Store 0 2 0 6 ∷ [])) 2 0 ≡ Some 6
@@ -173,6 +208,9 @@ own_of_none = refl
 -- the shared object, and one for each New
 only_shared : objects_of then_a_store ≡ 1
 only_shared = refl
+
+made_by_second : made_by shape (sizes 4) of_two_threads 1 ≡ 1
+made_by_second = refl
 
 two_made : objects_of of_two_threads ≡ 3
 two_made = refl

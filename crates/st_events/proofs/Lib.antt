@@ -10,8 +10,10 @@ pub mod HeapLemmas
 pub mod JudgeLemmas
 pub mod KeptLemmas
 pub mod LaunchLemmas
+mod LegalExamples
 pub mod LegalEvents
 pub mod LegalLemmas
+mod LimitExamples
 pub mod PoolLemmas
 mod ReplayLemmas
 pub mod RetireLemmas

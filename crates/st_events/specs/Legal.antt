@@ -7,8 +7,8 @@ use Rattle.st_events.specs.declared.events.Event.TheVariants.{New, Load, Store, 
 use Rattle.st_events.specs.declared.events.Args.{Args}
 use Rattle.st_events.specs.declared.heaps.TheConstants.{FIRST_OF_REGIONS}
 use Rattle.st_events.specs.declared.limits.Sizes.{Sizes}
-use Rattle.st_events.specs.declared.reasons.Why.{Why}
-use Rattle.st_events.specs.declared.reasons.Why.TheVariants.{WrongThread, WrongObject, WrongField, WrongNumber, WrongSite, WrongValue, WrongDone, NoLane}
+use Rattle.st_events.specs.declared.errors.Why.{Why}
+use Rattle.st_events.specs.declared.errors.Why.TheVariants.{WrongThread, WrongObject, WrongField, WrongNumber, WrongSite, WrongValue, WrongDone, NoLane}
 use Rattle.st_events.specs.declared.shapes.Kind.{Kind}
 use Rattle.st_events.specs.declared.shapes.Kind.TheVariants.{Int, Bool as Truth, Ref}
 use Rattle.st_events.specs.Shape.{ShapeLists, kinds_of}

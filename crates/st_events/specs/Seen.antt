@@ -2,7 +2,7 @@
 use Rattle.std.specs.Prelude.{◌≡◌, ◌+◌, ◌*◌, [], length, get_or, Option, None}
 use Rattle.st_events.specs.declared.events.Event.{Event}
 use Rattle.st_events.specs.declared.heaps.TheConstants.{FIRST_OF_REGIONS}
-use Rattle.st_events.specs.declared.reasons.Why.{Why}
+use Rattle.st_events.specs.declared.errors.Why.{Why}
 use Rattle.st_events.specs.declared.replaying.Replay.{Replay}
 use Rattle.st_events.specs.Heap.{heap_of}
 use Rattle.st_events.specs.World.{World}

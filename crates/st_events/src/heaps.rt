@@ -5,8 +5,8 @@ ghost use Rattle.st_events.specs.Legal.{is_of_class};
 ghost use Rattle.st_events.specs.Shape.{IsWithinLimits};
 ghost use Rattle.st_events.specs.Sizes.{AreWithinLimits};
 
+use crate::errors::NoMemory;
 use crate::limits::Sizes;
-use crate::refusals::NoMemory;
 use crate::shapes::{MOST_FIELDS, Shape};
 use std::alloc::Global;
 use std::marker::Model;

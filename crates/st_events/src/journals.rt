@@ -1,8 +1,8 @@
 //! A list of events with room reserved for more.
 ghost use Rattle.std.specs.Prelude.{◌≡◌, ◌+◌, ◌-◌, ◌^◌, ◌<◌, ◌≤◌, [], ◌∷◌, ◌++◌, length, IfOk, OnOk, OnErr, IsErr};
 
+use crate::errors::NoMemory;
 use crate::events::Event;
-use crate::refusals::NoMemory;
 use std::alloc::Global;
 use std::marker::Model;
 

@@ -2,14 +2,13 @@
 //! Plain types and their definitions; nothing here runs a program.
 #![tactic(auto)]
 
+mod errors;
 mod events;
 mod heaps;
 mod journals;
 mod judges;
 mod laws;
 mod limits;
-mod reasons;
-mod refusals;
 mod replaying;
 mod replays;
 mod runs;
@@ -18,6 +17,7 @@ mod shapes;
 mod tests;
 mod verdicts;
 
+pub use errors::{Lost, NoLane, NoMemory, ReplayError, Why};
 pub use events::{Args, Event, Site};
 pub use heaps::{FIRST_OF_REGIONS, HeapMap, SHARED_OBJECT};
 pub use journals::Journal;
@@ -27,8 +27,6 @@ pub use limits::{
     MOST_CALLS, MOST_COPIES, MOST_EVENTS, MOST_LANES, MOST_MUTATORS, MOST_OBJECTS, Sizes,
     USUAL_CALLS, USUAL_COPIES, USUAL_EVENTS, USUAL_LANES, USUAL_OBJECTS,
 };
-pub use reasons::{ReplayError, Why};
-pub use refusals::{Lost, NoLane, NoMemory};
 pub use replays::replay;
 pub use runs::Ran;
 pub use shapes::{Kind, MOST_ARGS, MOST_CHECKS, MOST_CLASSES, MOST_FIELDS, Shape};

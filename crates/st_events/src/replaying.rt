@@ -10,10 +10,10 @@ ghost use Rattle.st_events.specs.declared.events.Event.TheVariants.{New};
 mod fitting;
 mod legality;
 
+use crate::errors::NoMemory;
 use crate::events::Event;
 use crate::heaps::{FIRST_OF_REGIONS, HeapMap};
 use crate::limits::Sizes;
-use crate::refusals::NoMemory;
 use crate::shapes::Shape;
 use std::alloc::Global;
 
@@ -72,6 +72,13 @@ impl<'a> Replay<'a> {
     {
         let first = FIRST_OF_REGIONS as u64 + u64::from(m) * u64::from(self.sizes.objects);
         u64::from(obj) == first + u64::from(self.made_by(m))
+    }
+
+    /// Whether the number is that of the next check.
+    fn is_next_number(&self, number: u32) -> bool
+        ensures { result ≡ (number == (seen self.now).epoch + 1) }
+    {
+        u64::from(number) == u64::from(self.launches) + 1
     }
 
     /// Whether the check is active.

@@ -6,10 +6,10 @@ ghost use Rattle.st_events.specs.Legal.{IsLegal, IsFirstIllegal};
 ghost use Rattle.st_events.specs.Shape.{IsWithinLimits};
 ghost use Rattle.st_events.specs.Sizes.{AreWithinLimits};
 
+use crate::errors::{ReplayError, Why};
 use crate::events::Event;
 use crate::heaps::HeapMap;
 use crate::limits::Sizes;
-use crate::reasons::{ReplayError, Why};
 use crate::replaying::Replay;
 use crate::shapes::Shape;
 use std::alloc::Global;

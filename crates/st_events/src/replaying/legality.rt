@@ -4,8 +4,8 @@ ghost use Rattle.st_events.specs.Seen.{reason_of};
 ghost use Rattle.st_events.specs.declared.events.Event.TheVariants.{New, Load, Store, Cas, Launch, Retire};
 
 use super::Replay;
+use crate::errors::Why;
 use crate::events::{Args, Event};
-use crate::reasons::Why;
 
 impl<'a> Replay<'a> {
     /// The first reason why the event is not legal now, if it is not.
@@ -140,7 +140,7 @@ impl<'a> Replay<'a> {
         if m >= self.sizes.mutators {
             return Some(Why::WrongThread);
         }
-        if u64::from(number) != u64::from(self.launches) + 1 {
+        if !self.is_next_number(number) {
             return Some(Why::WrongNumber);
         }
         let kinds = match self.shape.check_kinds(site) {

@@ -54,6 +54,6 @@ fn a_judge_tells_its_shape(rt: HostRuntime) -> Result<(), Fail> {
     let shape = shape_of_rows(rt.alloc())?;
     assert!(rt; shape.fits());
     let judge = Lenient { shape };
-    assert_eq!(rt; class_count(&judge), 2);
+    assert_eq!(rt; class_count(&judge), 3);
     Ok(())
 }

@@ -1,7 +1,7 @@
 use Rattle.std.proofs.Common.{◌≡◌, ℕ, ◌∙◌, sym, subst, arith, Some, None, get_or, rules}
 use Rattle.st_events.specs.Terms.{New, next, illegal_reason}
-use Rattle.st_events.specs.declared.reasons.ReplayError.TheVariants.{NotLegal}
-use Rattle.st_events.specs.declared.reasons.Why.{Why}
+use Rattle.st_events.specs.declared.errors.ReplayError.TheVariants.{NotLegal}
+use Rattle.st_events.specs.declared.errors.Why.{Why}
 use Rattle.st_events.specs.Seen.{seen, LooksAlike}
 use Rattle.st_events.specs.Legal.{IsFirstIllegal}
 use Rattle.st_events.proofs.AlikeLemmas.{replayed_none, replayed_one_more, replayed_up_to_a_fault}

@@ -1,8 +1,35 @@
-//! Why an event is not legal, and what `replay` answers then.
+//! Why a call does not succeed: the answers that several crates share, and those of `replay`.
 ghost use Rattle.std.specs.Prelude.{◌≡◌};
-ghost use Rattle.st_events.specs.declared.reasons.ReplayError.TheVariants.{Memory};
+ghost use Rattle.st_events.specs.declared.errors.ReplayError.TheVariants.{Memory};
 
-use crate::refusals::NoMemory;
+use std::alloc::{AllocError, AllocFailed};
+
+/// Memory was asked for and refused. Nothing that was lent has changed.
+#[derive(Clone, Copy, Debug, PartialEq, Eq)]
+pub struct NoMemory;
+
+/// As many checks are active as there are lanes.
+#[derive(Clone, Copy, Debug, PartialEq, Eq)]
+pub struct NoLane;
+
+/// The version of an object that a check would read was lost, since the pool of copies was full at a change.
+#[derive(Clone, Copy, Debug, PartialEq, Eq)]
+pub struct Lost {
+    /// The object's number, from 1.
+    pub obj: u32,
+}
+
+impl From<AllocError> for NoMemory {
+    fn from(_error: AllocError) -> NoMemory {
+        NoMemory
+    }
+}
+
+impl<T: Drop> From<AllocFailed<T>> for NoMemory {
+    fn from(_error: AllocFailed<T>) -> NoMemory {
+        NoMemory
+    }
+}
 
 /// The first reason that applies, in the order of this list, where an event is not legal after those before it.
 #[derive(Clone, Copy, Debug, PartialEq, Eq)]
