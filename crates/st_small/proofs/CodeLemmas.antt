@@ -1,5 +1,6 @@
 -- The thread's events follow its code to its end
-use Rattle.std.proofs.Common.{◌≡◌, ℕ, zero, suc, ◌+◌, ◌*◌, ◌-◌, ◌<◌, ◌≤◌, nat_lt, false, List, [], ◌∷◌, ◌++◌, length, slice_get, unwrap_or, Some, refl, sym, ◌∙◌, ap, inl, inr, arith, append_assoc, length-append}
+use Rattle.std.proofs.Common.{◌≡◌, ℕ, zero, suc, ◌+◌, ◌*◌, ◌-◌, ◌<◌, ◌≤◌, nat_lt, false, List, [], ◌∷◌}
+use Rattle.std.proofs.Common.{◌++◌, length, slice_get, unwrap_or, Some, refl, sym, ◌∙◌, ap, inl, inr, arith, append_assoc, length-append}
 use Rattle.std.proofs.lemmas.List.{append-nil}
 use Rattle.std.proofs.lemmas.Bool.{le-ltb}
 use Rattle.std.proofs.lemmas.Bool.Decides.{eqb_tells}
@@ -10,8 +11,8 @@ use Rattle.st_events.specs.History.{own_events}
 use Rattle.st_small_source.specs.declared.programs.SmallStmt.{SmallStmt}
 use Rattle.st_small_source.specs.declared.programs.SmallStmt.TheVariants.{Make, Put, Check}
 use Rattle.st_small_source.specs.Small.{SmallLists}
-use Rattle.st_small_source.specs.Sound.{AreSound}
-use Rattle.st_small.specs.Code.{Locals, block_course, turn_of, next_request, value_of, FollowsAfter}
+use Rattle.st_small_source.specs.Sound.{AreSoundStatements}
+use Rattle.st_small.specs.Requests.{Locals, block_course, turn_of, next_request, value_of, FollowsAfter}
 use Rattle.st_small.specs.Running.{Progress, after, classes_of, events_from}
 use Rattle.st_small.proofs.LegalLemmas.{slice_get-seam}
 
@@ -35,7 +36,8 @@ slice_get-front (x ∷ xs) ys zero h = refl
 slice_get-front (x ∷ xs) ys (suc k) h = slice_get-front xs ys k (omega arith)
 
 -- the value of each local, once one more is made
-value-of-more : (values : List ℕ) (made : ℕ) → length values ≡ made → ((k : ℕ) → k < made → unwrap_or (slice_get values k) 0 ≡ 2 + k) → (k : ℕ) → k < made + 1 →
+value-of-more : (values : List ℕ) (made : ℕ) → length values ≡ made → ((k : ℕ) → k < made → unwrap_or (slice_get values k) 0 ≡ 2 + k) → (k : ℕ)
+    → k < made + 1 →
     unwrap_or (slice_get (values ++ (2 + made) ∷ []) k) 0 ≡ 2 + k
 value-of-more values made e h k lt =
     elim (eqb_tells k made) [
@@ -45,7 +47,8 @@ value-of-more values made e h k lt =
       | inr other ↦ rw (slice_get-front values ((2 + made) ∷ []) k (omega (arith, other.1, lt, e))) (h k (omega (arith, other.1, lt)))
     ]
 
-at-make : (program : SmallLists) (sizes : Sizes) (replies : List ℕ) (at : Progress) (left : List SmallStmt) → IsAt program sizes replies at (Make ∷ left) →
+at-make : (program : SmallLists) (sizes : Sizes) (replies : List ℕ) (at : Progress) (left : List SmallStmt)
+    → IsAt program sizes replies at (Make ∷ left) →
     IsAt program sizes (replies ++ (2 + at.made) ∷ []) (after (classes_of program.fields) at Make) left
 at-make program sizes replies at left p =
     let enough : nat_lt p.locals.charge 1 ≡ false = le-ltb p.locals.charge 1 (omega (arith, p.charge)) in
@@ -59,7 +62,8 @@ at-make program sizes replies at left p =
       charge = omega (arith, p.charge);
     }
 
-at-put : (program : SmallLists) (sizes : Sizes) (replies : List ℕ) (at : Progress) (local field value : ℕ) (left : List SmallStmt) → IsAt program sizes replies at (Put local field value ∷ left) →
+at-put : (program : SmallLists) (sizes : Sizes) (replies : List ℕ) (at : Progress) (local field value : ℕ) (left : List SmallStmt)
+    → IsAt program sizes replies at (Put local field value ∷ left) →
     IsAt program sizes (replies ++ 0 ∷ []) (after (classes_of program.fields) at (Put local field value)) left
 at-put program sizes replies at local field value left p =
     let enough : nat_lt p.locals.charge 1 ≡ false = le-ltb p.locals.charge 1 (omega (arith, p.charge)) in
@@ -73,7 +77,8 @@ at-put program sizes replies at local field value left p =
       charge = omega (arith, p.charge);
     }
 
-at-check : (program : SmallLists) (sizes : Sizes) (replies : List ℕ) (at : Progress) (local field value : ℕ) (place : Site) (left : List SmallStmt) → IsAt program sizes replies at (Check local field value place ∷ left) →
+at-check : (program : SmallLists) (sizes : Sizes) (replies : List ℕ) (at : Progress) (local field value : ℕ) (place : Site) (left : List SmallStmt)
+    → IsAt program sizes replies at (Check local field value place ∷ left) →
     IsAt program sizes (replies ++ 0 ∷ []) (after (classes_of program.fields) at (Check local field value place)) left
 at-check program sizes replies at local field value place left p =
     let enough : nat_lt p.locals.charge 2 ≡ false = le-ltb p.locals.charge 2 (omega (arith, p.charge)) in
@@ -87,7 +92,8 @@ at-check program sizes replies at local field value place left p =
       charge = omega (arith, p.charge);
     }
 
-pub follows-from : (program : SmallLists) (sizes : Sizes) (replies : List ℕ) (at : Progress) (left : List SmallStmt) → AreSound program.fields at.made left → IsAt program sizes replies at left →
+pub follows-from : (program : SmallLists) (sizes : Sizes) (replies : List ℕ) (at : Progress) (left : List SmallStmt)
+    → AreSoundStatements program.fields at.made left → IsAt program sizes replies at left →
     FollowsAfter program sizes 0 replies (own_events 0 (events_from (classes_of program.fields) at left)) Finished
 follows-from program sizes replies at [] order p = now program sizes replies at [] p
 follows-from program sizes replies at (Make ∷ left) order p =
@@ -103,5 +109,6 @@ follows-from program sizes replies at (Put local field value ∷ left) order p =
 follows-from program sizes replies at (Check local field value place ∷ left) order p =
     let enough : nat_lt p.locals.charge 2 ≡ false = le-ltb p.locals.charge 2 (omega (arith, p.charge)) in (
       now program sizes replies at (Check local field value place ∷ left) p ∙ rw (enough, p.values local order.0.0, p.site_is) refl,
-      follows-from program sizes (replies ++ 0 ∷ []) (after (classes_of program.fields) at (Check local field value place)) left order.1 (at-check program sizes replies at local field value place left p),
+      follows-from program sizes (replies ++ 0 ∷ []) (after (classes_of program.fields) at (Check local field value place)) left order.1
+          (at-check program sizes replies at local field value place left p),
     )

@@ -18,12 +18,13 @@ use Rattle.st_small_source.specs.declared.programs.SmallStmt.{SmallStmt}
 use Rattle.st_small_source.specs.declared.programs.SmallStmt.TheVariants.{Make, Put, Check}
 use Rattle.st_small_source.specs.Small.{SmallLists}
 use Rattle.st_small.specs.Program.{checks_of, shape_of}
-use Rattle.st_small.specs.Code.{one_argument}
+use Rattle.st_small.specs.Requests.{one_argument}
 use Rattle.st_small.specs.Running.{HaveRoom, classes_of, events_from}
 use Rattle.st_small.proofs.LocalLemmas.{IsNode, word-of-node}
 use Rattle.st_small.proofs.WorldLemmas.{IsReady, progress_in, ready-next, world_next}
 
-node-fits : (program : SmallLists) (heap : Heap) (o : Option Object) (field value : ℕ) → IsNode program.fields o → slice_get program.fields field ≡ Some Int →
+node-fits : (program : SmallLists) (heap : Heap) (o : Option Object) (field value : ℕ) → IsNode program.fields o
+    → slice_get program.fields field ≡ Some Int →
     has_kind_if_any heap (kind_of_field (shape_of program) o field) value ≡ true
 node-fits program heap None field value node is = absurd node
 node-fits program heap (Some x) field value node is = rw (node.0, is) refl
@@ -44,7 +45,8 @@ next-check program sizes w local field value place left r =
     rw (r.checks, r.epoch) (slice_get-seam r.done (record { field = field; value = value }) (checks_of left))
 
 -- a New is legal where the next statement makes an object
-legal-new : (program : SmallLists) (sizes : Sizes) (w : World) (left : List SmallStmt) → HaveRoom program sizes → IsReady program sizes w (Make ∷ left) →
+legal-new : (program : SmallLists) (sizes : Sizes) (w : World) (left : List SmallStmt) → HaveRoom program sizes
+    → IsReady program sizes w (Make ∷ left) →
     IsLegalNext (shape_of program) sizes w (New 0 (2 + w.made 0) 1)
 legal-new program sizes w left room r = new_is_legal (shape_of program) sizes w 0 (2 + w.made 0) 1 (record {
   thread = omega (arith, room.mutators);
@@ -55,7 +57,8 @@ legal-new program sizes w left room r = new_is_legal (shape_of program) sizes w 
 })
 
 -- a Store is legal where the next statement puts a number
-legal-store : (program : SmallLists) (sizes : Sizes) (w : World) (local field value : ℕ) (left : List SmallStmt) → HaveRoom program sizes → IsReady program sizes w (Put local field value ∷ left) →
+legal-store : (program : SmallLists) (sizes : Sizes) (w : World) (local field value : ℕ) (left : List SmallStmt) → HaveRoom program sizes
+    → IsReady program sizes w (Put local field value ∷ left) →
     IsLegalNext (shape_of program) sizes w (Store 0 (2 + local) field value)
 legal-store program sizes w local field value left room r =
     let node : IsNode program.fields (w.heap (2 + local)) = r.objects local r.in_order.0.0 in
@@ -66,12 +69,14 @@ legal-store program sizes w local field value left room r =
     })
 
 -- a Launch is legal where the next statement is a check
-legal-launch : (program : SmallLists) (sizes : Sizes) (w : World) (local field value : ℕ) (place : Site) (left : List SmallStmt) → HaveRoom program sizes → IsReady program sizes w (Check local field value place ∷ left) →
+legal-launch : (program : SmallLists) (sizes : Sizes) (w : World) (local field value : ℕ) (place : Site) (left : List SmallStmt)
+    → HaveRoom program sizes → IsReady program sizes w (Check local field value place ∷ left) →
     IsLegalNext (shape_of program) sizes w (Launch 0 w.epoch (w.epoch + 1) (one_argument (2 + local)))
 legal-launch program sizes w local field value place left room r =
     let node : IsNode program.fields (w.heap (2 + local)) = r.objects local r.in_order.0.0 in
     let here = next-check program sizes w local field value place left r in
-    let kinds : slice_get (map (λ _. Ref 1 ∷ []) (checks_of program.body)) w.epoch ≡ Some (Ref 1 ∷ []) = slice_get-map (λ _. Ref 1 ∷ []) (checks_of program.body) w.epoch ∙ ap (option_map (λ _. Ref 1 ∷ [])) here in
+    let kinds : slice_get (map (λ _. Ref 1 ∷ []) (checks_of program.body)) w.epoch ≡ Some (Ref 1 ∷ []) = slice_get-map (λ _. Ref 1 ∷ []) (checks_of program.body) w.epoch
+    ∙ ap (option_map (λ _. Ref 1 ∷ [])) here in
     let some : ((2 + local) == 0) ≡ false = ne_eqb (2 + local) 0 (λ e. omega (arith, e)) in
     let class : is_of_class (class_at w.heap (2 + local)) 1 ≡ true = node-class program.fields (w.heap (2 + local)) node in
     launch_is_legal (shape_of program) sizes w 0 (w.epoch + 1) w.epoch (one_argument (2 + local)) (record {
@@ -83,7 +88,8 @@ legal-launch program sizes w local field value place left room r =
     })
 
 -- a Retire is legal where its check alone is active
-legal-retire : (program : SmallLists) (sizes : Sizes) (w : World) (number : ℕ) → w.active ≡ number ∷ [] → IsLegalNext (shape_of program) sizes w (Retire 0 number)
+legal-retire : (program : SmallLists) (sizes : Sizes) (w : World) (number : ℕ) → w.active ≡ number ∷ []
+    → IsLegalNext (shape_of program) sizes w (Retire 0 number)
 legal-retire program sizes w number e = retire_is_legal (shape_of program) sizes w 0 number (record { thread = omega arith; active = rw (e, same_number number) refl })
 
 -- the events of the statements that are left are legal

@@ -1,7 +1,8 @@
-mod CodeLemmas
+mod Examples
 mod LegalLemmas
 mod LocalLemmas
 mod MachineLemmas
+mod RequestsLemmas
 mod RunLemmas
 pub mod SourceLemmas
 mod VerdictLemmas

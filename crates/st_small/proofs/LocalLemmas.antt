@@ -9,7 +9,7 @@ use Rattle.st_events.specs.declared.shapes.Kind.TheVariants.{Int}
 use Rattle.st_events.specs.Heap.{Heap, Object, word_of, with_object, with_word, set_word, fresh}
 use Rattle.st_small_source.specs.declared.programs.SmallStmt.{SmallStmt}
 use Rattle.st_small_source.specs.declared.programs.SmallStmt.TheVariants.{Make, Put, Check}
-use Rattle.st_small_source.specs.Sound.{AreSound}
+use Rattle.st_small_source.specs.Sound.{AreSoundStatements}
 use Rattle.st_small.specs.Running.{Progress, classes_of, after, CanDoAll}
 
 -- an object of the declared class
@@ -30,15 +30,18 @@ node-set : (fields : List Kind) (o : Option Object) (field value : ℕ) → IsNo
 node-set fields None field value node = node
 node-set fields (Some x) field value node = (node.0, length-set x.words field value ∙ node.1)
 
-node-cond : (fields : List Kind) (b : Bool) (x y : Option Object) → (b ≡ true → IsNode fields x) → (b ≡ false → IsNode fields y) → IsNode fields (cond b x y)
+node-cond : (fields : List Kind) (b : Bool) (x y : Option Object) → (b ≡ true → IsNode fields x) → (b ≡ false → IsNode fields y)
+    → IsNode fields (cond b x y)
 node-cond fields true x y hx hy = hx refl
 node-cond fields false x y hx hy = hy refl
 
-have-objects-put : (fields : List Kind) (heap : Heap) (made obj field value : ℕ) → HaveObjects fields heap made → HaveObjects fields (with_word heap obj field value) made
+have-objects-put : (fields : List Kind) (heap : Heap) (made obj field value : ℕ) → HaveObjects fields heap made
+    → HaveObjects fields (with_word heap obj field value) made
 have-objects-put fields heap made obj field value h k lt =
     node-cond fields ((2 + k) == obj) _ _ (λ _. node-set fields (heap (2 + k)) field value (h k lt)) (λ _. h k lt)
 
-have-objects-make : (fields : List Kind) (heap : Heap) (made : ℕ) → HaveObjects fields heap made → HaveObjects fields (with_object heap (2 + made) (fresh (classes_of fields) 1)) (made + 1)
+have-objects-make : (fields : List Kind) (heap : Heap) (made : ℕ) → HaveObjects fields heap made
+    → HaveObjects fields (with_object heap (2 + made) (fresh (classes_of fields) 1)) (made + 1)
 have-objects-make fields heap made h k lt =
     elim (eqb_tells (2 + k) (2 + made)) [
       | inl e ↦ node-cond fields ((2 + k) == (2 + made)) _ _ (λ _. (refl, length-map fields (λ _. 0))) (λ no. absurd (cc))
@@ -53,7 +56,8 @@ have-objects-after fields at (Put local field value) h = have-objects-put fields
 have-objects-after fields at (Check local field value place) h = h
 
 -- statements in order can be done, where there is room for the objects
-pub can-do-all : (fields : List Kind) (room : ℕ) (at : Progress) (statements : List SmallStmt) → HaveObjects fields at.heap at.made → AreSound fields at.made statements →
+pub can-do-all : (fields : List Kind) (room : ℕ) (at : Progress) (statements : List SmallStmt) → HaveObjects fields at.heap at.made
+    → AreSoundStatements fields at.made statements →
     2 + at.made + length statements ≤ room → CanDoAll (classes_of fields) room at statements
 can-do-all fields room at [] objects order h = tt
 can-do-all fields room at (Make ∷ rest) objects order h =

@@ -12,7 +12,7 @@ use Rattle.st_small_source.specs.declared.programs.SmallStmt.{SmallStmt}
 use Rattle.st_small_source.specs.declared.programs.SmallStmt.TheVariants.{Make, Put, Check}
 use Rattle.st_small_source.specs.Small.{SmallLists}
 use Rattle.st_small.specs.Program.{shape_of, plain_of, comparison_holds, value_on}
-use Rattle.st_small.specs.Code.{one_argument}
+use Rattle.st_small.specs.Requests.{one_argument}
 use Rattle.st_small.specs.Right.{IsValueAtLaunch, IsPlain, IsTruth}
 use Rattle.st_small.specs.Running.{Progress, after, classes_of, events_from, verdicts_from}
 use Rattle.st_small.proofs.LegalLemmas.{next-check}
@@ -23,7 +23,8 @@ abbrev pub world_in_the_end : SmallLists → Sizes → World → List SmallStmt 
 world_in_the_end program sizes w left = world_from (shape_of program) sizes w (events_from (classes_of program.fields) (progress_in w) left)
 
 -- a check that is launched stays as it was launched
-kept : (program : SmallLists) (sizes : Sizes) (w : World) (left : List SmallStmt) (number : ℕ) → number ≤ w.epoch → (world_in_the_end program sizes w left).launched number ≡ w.launched number
+kept : (program : SmallLists) (sizes : Sizes) (w : World) (left : List SmallStmt) (number : ℕ) → number ≤ w.epoch
+    → (world_in_the_end program sizes w left).launched number ≡ w.launched number
 kept program sizes w [] number h = refl
 kept program sizes w (Make ∷ left) number h = kept program sizes (world_next (shape_of program) sizes w Make) left number h
 kept program sizes w (Put local field value ∷ left) number h = kept program sizes (world_next (shape_of program) sizes w (Put local field value)) left number h
@@ -41,7 +42,8 @@ launches-counted program sizes w (Check local field value place ∷ left) =
     omega (arith, launches-counted program sizes (world_next (shape_of program) sizes w (Check local field value place)) left)
 
 -- no check is left active
-pub none-left-active : (program : SmallLists) (sizes : Sizes) (w : World) (left : List SmallStmt) → IsReady program sizes w left → (world_in_the_end program sizes w left).active ≡ []
+pub none-left-active : (program : SmallLists) (sizes : Sizes) (w : World) (left : List SmallStmt) → IsReady program sizes w left
+    → (world_in_the_end program sizes w left).active ≡ []
 none-left-active program sizes w [] r = r.active
 none-left-active program sizes w (Make ∷ left) r = none-left-active program sizes (world_next (shape_of program) sizes w Make) left (ready-next program sizes w Make left r)
 none-left-active program sizes w (Put local field value ∷ left) r =
@@ -50,15 +52,18 @@ none-left-active program sizes w (Check local field value place ∷ left) r =
     none-left-active program sizes (world_next (shape_of program) sizes w (Check local field value place)) left (ready-next program sizes w (Check local field value place) left r)
 
 -- the verdict of the next check is that of the heap where it is launched
-next-verdict : (program : SmallLists) (sizes : Sizes) (w : World) (local field value : ℕ) (place : Site) (left : List SmallStmt) → IsReady program sizes w (Check local field value place ∷ left) →
-    IsValueAtLaunch program ((world_in_the_end program sizes w (Check local field value place ∷ left)).launched (w.epoch + 1)) (Value (plain_of (comparison_holds w.heap (2 + local) (record { field = field; value = value }))))
+next-verdict : (program : SmallLists) (sizes : Sizes) (w : World) (local field value : ℕ) (place : Site) (left : List SmallStmt)
+    → IsReady program sizes w (Check local field value place ∷ left) →
+    IsValueAtLaunch program ((world_in_the_end program sizes w (Check local field value place ∷ left)).launched (w.epoch + 1))
+    (Value (plain_of (comparison_holds w.heap (2 + local) (record { field = field; value = value }))))
 next-verdict program sizes w local field value place left r =
     let launched : Launched = record { past = w.heap; thread = 0; site = w.epoch; args = one_argument (2 + local) } in
     let is : (world_in_the_end program sizes w (Check local field value place ∷ left)).launched (w.epoch + 1) ≡ Some launched =
     kept program sizes (world_next (shape_of program) sizes w (Check local field value place)) left (w.epoch + 1) (omega arith) ∙ rw (eq-eqb (w.epoch + 1) (w.epoch + 1) refl) refl in
     rw is (ap (λ e. Value (value_on w.heap (one_argument (2 + local)) e)) (sym (next-check program sizes w local field value place left r)))
 
-pub right-from : (program : SmallLists) (sizes : Sizes) (w : World) (left : List SmallStmt) → IsReady program sizes w left → (n : ℕ) (verdict : Verdict) →
+pub right-from : (program : SmallLists) (sizes : Sizes) (w : World) (left : List SmallStmt) → IsReady program sizes w left
+    → (n : ℕ) (verdict : Verdict) →
     slice_get (verdicts_from (classes_of program.fields) (progress_in w) left) n ≡ Some verdict →
     IsValueAtLaunch program ((world_in_the_end program sizes w left).launched (w.epoch + (n + 1))) verdict
 right-from program sizes w [] r n verdict e = absurd (cc)

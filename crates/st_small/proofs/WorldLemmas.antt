@@ -7,7 +7,7 @@ use Rattle.st_events.specs.World.{World, without, world_from}
 use Rattle.st_small_source.specs.declared.programs.SmallStmt.{SmallStmt}
 use Rattle.st_small_source.specs.declared.programs.SmallStmt.TheVariants.{Make, Put, Check}
 use Rattle.st_small_source.specs.Small.{SmallLists}
-use Rattle.st_small_source.specs.Sound.{AreSound}
+use Rattle.st_small_source.specs.Sound.{AreSoundStatements}
 use Rattle.st_small.specs.Program.{Comparison, checks_of, shape_of}
 use Rattle.st_small.specs.Running.{Progress, events_of}
 use Rattle.st_small.proofs.LocalLemmas.{HaveObjects, have-objects-after}
@@ -27,7 +27,7 @@ pub record IsReady (program : SmallLists) (sizes : Sizes) (w : World) (left : Li
   pub epoch : w.epoch ≡ length done
   pub active : w.active ≡ []
   pub objects : HaveObjects program.fields w.heap (w.made 0)
-  pub in_order : AreSound program.fields (w.made 0) left
+  pub in_order : AreSoundStatements program.fields (w.made 0) left
   pub room : w.made 0 + length left ≤ sizes.objects
 
 retired : (n : ℕ) (active : List ℕ) → active ≡ [] → without n (active ++ n ∷ []) ≡ []

@@ -1,4 +1,4 @@
-pub mod Code
+pub mod Requests
 pub mod Machine
 pub mod Program
 pub mod Right

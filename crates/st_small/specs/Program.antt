@@ -11,7 +11,7 @@ use Rattle.st_events.specs.Legal.{is_word}
 use Rattle.st_small_source.specs.declared.programs.SmallStmt.{SmallStmt}
 use Rattle.st_small_source.specs.declared.programs.SmallStmt.TheVariants.{Make, Put, Check}
 use Rattle.st_small_source.specs.Small.{SmallLists}
-use Rattle.st_small_source.specs.Sound.{IsSound}
+use Rattle.st_small_source.specs.Sound.{IsSoundProgram}
 use Rattle.st_small_source.specs.declared.limits.TheConstants.{NODE_CLASS}
 use Rattle.st_small.specs.declared.limits.TheConstants.{CLASSES}
 
@@ -56,5 +56,5 @@ plain_value program heap site args = value_on heap args (slice_get (checks_of pr
 
 -- what is asked of a small program so that it can run; the program of every accepted source is so
 pub record IsWellFormed (program : SmallLists) : Type 0 where
-  pub sound : IsSound program
+  pub sound : IsSoundProgram program
   pub kinds : All (IsDeclaredKind CLASSES) program.fields

@@ -14,7 +14,7 @@ use Rattle.st_events.specs.Legal.{IsLegal}
 use Rattle.st_events.specs.Ran.{RanLists}
 use Rattle.st_small_source.specs.Small.{SmallLists}
 use Rattle.st_small.specs.Program.{shape_of, plain_value}
-use Rattle.st_small.specs.Code.{threads_of, Follows}
+use Rattle.st_small.specs.Requests.{threads_of, Follows}
 
 -- the verdict is the plain value of the check on the heap just before its launch
 abbrev pub IsValueAtLaunch : SmallLists → Option Launched → Verdict → Type 0
@@ -49,7 +49,8 @@ pub record IsRightRun (program : SmallLists) (sizes : Sizes) (ran : RanLists) : 
   pub one_end_each : length ran.ends ≡ length (threads_of program)
   pub to_its_end : (thread : ℕ) (end : End) → slice_get ran.ends thread ≡ Some end → Follows program sizes thread (own_events thread ran.journal) end
   pub one_verdict_each : length ran.verdicts ≡ epoch_of (shape_of program) sizes ran.journal
-  pub right_verdicts : (n : ℕ) (verdict : Verdict) → slice_get ran.verdicts n ≡ Some verdict → IsRightVerdict program sizes ran.journal (n + 1) verdict
+  pub right_verdicts : (n : ℕ) (verdict : Verdict) → slice_get ran.verdicts n ≡ Some verdict
+      → IsRightVerdict program sizes ran.journal (n + 1) verdict
   pub none_active : active_checks (shape_of program) sizes ran.journal ≡ []
   pub all_free : ran.free ≡ sizes.copies
   pub none_abandoned : sizes.lanes * (objects_of ran.journal + 1) ≤ sizes.copies → All IsPlain ran.verdicts

@@ -16,7 +16,7 @@ use Rattle.st_small_source.specs.declared.programs.SmallStmt.TheVariants.{Make, 
 use Rattle.st_small_source.specs.declared.limits.TheConstants.{NODE_CLASS}
 use Rattle.st_small.specs.declared.limits.TheConstants.{ONLY_THREAD, FIRST_OBJECT, LAUNCH_COST}
 use Rattle.st_small.specs.Program.{plain_of, comparison_holds}
-use Rattle.st_small.specs.Code.{one_argument}
+use Rattle.st_small.specs.Requests.{one_argument}
 
 -- where a run stands: the heap, how many locals are made, and how many checks are launched
 pub record Progress : Type 0 where

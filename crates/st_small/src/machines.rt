@@ -3,7 +3,7 @@ ghost use Rattle.std.specs.Prelude.{◌≡◌, ◌+◌, ◌<◌, length, IsSome,
 ghost use Rattle.st_events.specs.Heap.{heap_of, word_at};
 ghost use Rattle.st_events.specs.Shape.{IsWithinLimits};
 ghost use Rattle.st_events.specs.declared.events.Site.{Site};
-ghost use Rattle.st_small.specs.Code.{one_argument as one_argument_of};
+ghost use Rattle.st_small.specs.Requests.{one_argument as one_argument_of};
 ghost use Rattle.st_small.specs.Program.{plain_of, comparison_holds};
 ghost use Rattle.st_small.specs.Running.{object_of_local, CanDo};
 

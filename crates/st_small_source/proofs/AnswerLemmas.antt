@@ -5,12 +5,12 @@ use Rattle.st_lex.specs.declared.errors.Fault.{Fault}
 use Rattle.st_lex.specs.declared.kinds.Token.{Token}
 use Rattle.st_lex.specs.Tokens.{IsTokensOf, IsFaultOf}
 use Rattle.st_lex.proofs.Exact.{one_list, not_both}
-use Rattle.st_small_source.specs.declared.refusals.SmallError.{SmallError}
-use Rattle.st_small_source.specs.declared.refusals.SmallError.TheVariants as errors
-use Rattle.st_small_source.specs.Answers.{program_of}
+use Rattle.st_small_source.specs.declared.errors.SmallError.{SmallError}
+use Rattle.st_small_source.specs.declared.errors.SmallError.TheVariants as errors
+use Rattle.st_small_source.specs.Built.{program_of}
 use Rattle.st_small_source.specs.Grammar.{Terminal, Program}
 use Rattle.st_small_source.specs.Numbering.{numbered_program}
-use Rattle.st_small_source.specs.Reading.{◌>>=◌, Gives, program_at}
+use Rattle.st_small_source.specs.Reading.{◌>>=◌, GivesAs, program_at}
 use Rattle.st_small_source.specs.Small.{SmallLists}
 use Rattle.st_small_source.specs.Source.{IsSmallSource}
 use Rattle.st_small_source.specs.Symbols.{terminal_of}
@@ -19,7 +19,8 @@ use Rattle.st_small_source.proofs.ProgramLemmas as grammar
 use Rattle.st_small_source.proofs.SourceLemmas as names
 
 -- the program that the tokens of a text come to is the source's
-program_is_source : (text : List ℕ) (tokens : List Token) (small : SmallLists) → IsTokensOf text tokens → program_of text tokens ≡ Some small → IsSmallSource text small
+program_is_source : (text : List ℕ) (tokens : List Token) (small : SmallLists) → IsTokensOf text tokens → program_of text tokens ≡ Some small
+    → IsSmallSource text small
 unfolding program_of
 program_is_source text tokens small are e =
     let tree = bind_some (program_at (map (terminal_of text) tokens)) numbered_program small e in
@@ -34,7 +35,8 @@ program_is_source text tokens small are e =
     }
 
 -- a source's program is what the tokens of the text come to
-source_is_program : (text : List ℕ) (tokens : List Token) (small : SmallLists) → IsTokensOf text tokens → IsSmallSource text small → program_of text tokens ≡ Some small
+source_is_program : (text : List ℕ) (tokens : List Token) (small : SmallLists) → IsTokensOf text tokens → IsSmallSource text small
+    → program_of text tokens ≡ Some small
 unfolding program_of
 source_is_program text tokens small are s =
     ap (λ (list : List Token). program_at (map (terminal_of text) list) >>= numbered_program) (one_list text tokens s.tokens are s.are_tokens)
@@ -47,12 +49,14 @@ one_program text a b s t = some_is a b (sym (source_is_program text s.tokens a s
 
 -- ---- what the call answers
 
-pub built_of : {X : Type 0} (view : X → SmallLists) (text : List ℕ) (tokens : List Token) (r : Result X SmallError) → IsTokensOf text tokens → Gives view r (program_of text tokens)
+pub built_of : {X : Type 0} (view : X → SmallLists) (text : List ℕ) (tokens : List Token) (r : Result X SmallError) → IsTokensOf text tokens
+    → GivesAs view r (program_of text tokens)
     → IfOk r (λ x. IsSmallSource text (view x))
 built_of view text tokens (Ok x) are g = program_is_source text tokens (view x) are g
 built_of view text tokens (Err e) are g = tt
 
-pub not_built_of : {X : Type 0} (view : X → SmallLists) (text : List ℕ) (tokens : List Token) (r : Result X SmallError) → IsTokensOf text tokens → Gives view r (program_of text tokens)
+pub not_built_of : {X : Type 0} (view : X → SmallLists) (text : List ℕ) (tokens : List Token) (r : Result X SmallError) → IsTokensOf text tokens
+    → GivesAs view r (program_of text tokens)
     → IsErrOf r errors.NotBuilt → (program : SmallLists) → ¬ IsSmallSource text program
 not_built_of view text tokens (Ok x) are g e program s = absurd cc
 not_built_of view text tokens (Err errors.Memory) are g e program s = absurd cc

@@ -28,7 +28,8 @@ module _ {A : Type 0} {item : List Terminal → Option (A × List Terminal)} {sp
   abbrev Spelled : List Terminal → List A × List Terminal → Type 0
   Spelled ts x = ts ≡ flat_map spelling x.0 ++ (mark (codes "}") ∷ x.1)
 
-  joined : (ts : List Terminal) (a : A) (r : List Terminal) (y x : List A × List Terminal) → ts ≡ spelling a ++ r → Spelled r y → (a ∷ y.0, y.1) ≡ x → Spelled ts x
+  joined : (ts : List Terminal) (a : A) (r : List Terminal) (y x : List A × List Terminal) → ts ≡ spelling a ++ r → Spelled r y → (a ∷ y.0, y.1) ≡ x
+      → Spelled ts x
   joined ts a r y x p q e =
       p
       ∙ ap (λ (o : List Terminal). spelling a ++ o) q
@@ -50,7 +51,8 @@ module _ {A : Type 0} {item : List Terminal → Option (A × List Terminal)} {sp
   items_take zero ts x e = absurd cc
   items_take (suc n) ts x e = items_step n ts x (mark_at (codes "}") ts) (λ us y. items_take n us y) refl e
 
-  pub items_again : (n : ℕ) (xs : List A) (rest : List Terminal) → length xs < n → items_at item n (flat_map spelling xs ++ (mark (codes "}") ∷ rest)) ≡ Some (xs, rest)
+  pub items_again : (n : ℕ) (xs : List A) (rest : List Terminal) → length xs < n
+      → items_at item n (flat_map spelling xs ++ (mark (codes "}") ∷ rest)) ≡ Some (xs, rest)
   unfolding items_at mark_at
   items_again zero xs rest lt = absurd (omega arith)
   items_again (suc n) [] rest lt = refl
@@ -74,7 +76,8 @@ module _ {A : Type 0} {item : List Terminal → Option (A × List Terminal)} {sp
   abbrev pub with_front : List A → Option (List A × List Terminal) → Option (List A × List Terminal)
   with_front front read = read >>= λ x. Some (front ++ x.0, x.1)
 
-  regroup : (front : List A) (a : A) (read : Option (List A × List Terminal)) → with_front front (read >>= λ x. Some (a ∷ x.0, x.1)) ≡ with_front (front ++ a ∷ []) read
+  regroup : (front : List A) (a : A) (read : Option (List A × List Terminal))
+      → with_front front (read >>= λ x. Some (a ∷ x.0, x.1)) ≡ with_front (front ++ a ∷ []) read
   regroup front a None = refl
   regroup front a (Some x) = ap (λ (l : List A). Some (l, x.1)) (sym (append_assoc front (a ∷ []) x.0))
 
@@ -87,11 +90,13 @@ module _ {A : Type 0} {item : List Terminal → Option (A × List Terminal)} {sp
   unfolding items_at
   goes_on front n ts a after unclosed read = rw (unclosed, read) (regroup front a (items_at item n after))
 
-  stops : (front : List A) (n : ℕ) (ts : List Terminal) → mark_at (codes "}") ts ≡ None → item ts ≡ None → with_front front (items_at item (suc n) ts) ≡ None
+  stops : (front : List A) (n : ℕ) (ts : List Terminal)
+      → mark_at (codes "}") ts ≡ None → item ts ≡ None → with_front front (items_at item (suc n) ts) ≡ None
   unfolding items_at
   stops front n ts unclosed read = rw (unclosed, read) refl
 
-  ends : (front : List A) (n : ℕ) (ts rest : List Terminal) → mark_at (codes "}") ts ≡ Some rest → with_front front (items_at item (suc n) ts) ≡ Some (front, rest)
+  ends : (front : List A) (n : ℕ) (ts rest : List Terminal)
+      → mark_at (codes "}") ts ≡ Some rest → with_front front (items_at item (suc n) ts) ≡ Some (front, rest)
   unfolding items_at
   ends front n ts rest closed = rw closed (ap (λ (l : List A). Some (l, rest)) (append-nil front))
 
@@ -116,22 +121,31 @@ module _ {A : Type 0} {item : List Terminal → Option (A × List Terminal)} {sp
     left found read g = let within = g.within in let few = g.few in omega arith
 
     -- what a reader leaves is the part of the symbols from a later place on
-    part : (read : ℕ) (own : List Terminal) (after : List Symbol) → read ≤ length symbols → 0 < length own → terminals (drop read symbols) ≡ own ++ terminals after
+    part : (read : ℕ) (own : List Terminal) (after : List Symbol) → read ≤ length symbols → 0 < length own
+        → terminals (drop read symbols) ≡ own ++ terminals after
         → (length after ≤ length symbols) × (read < length symbols - length after) × (terminals (drop (length symbols - length after) symbols) ≡ terminals after)
     part read own after within some e =
         let sizes : length symbols - read ≡ length own + length after =
-        sym (length-drop read symbols) ∙ sym (length-map (drop read symbols) terminal) ∙ ap length e ∙ length-append own (terminals after) ∙ ap (λ (n : ℕ). length own + n) (length-map after terminal) in
+        sym (length-drop read symbols) ∙ sym (length-map (drop read symbols) terminal) ∙ ap length e ∙ length-append own (terminals after)
+        ∙ ap (λ (n : ℕ). length own + n) (length-map after terminal) in
         let all : terminals symbols ≡ (take read (terminals symbols) ++ own) ++ terminals after =
-        sym (take-append-drop read (terminals symbols)) ∙ ap (λ (l : List Terminal). take read (terminals symbols) ++ l) (drop-map terminal read symbols ∙ e) ∙ sym (append_assoc (take read (terminals symbols)) own (terminals after)) in
+        sym (take-append-drop read (terminals symbols)) ∙ ap (λ (l : List Terminal). take read (terminals symbols) ++ l) (drop-map terminal read symbols ∙ e)
+        ∙ sym (append_assoc (take read (terminals symbols)) own (terminals after)) in
         let place : length (take read (terminals symbols) ++ own) ≡ length symbols - length after =
-        omega (arith, length-append (take read (terminals symbols)) own, length-take read (terminals symbols), length-map symbols terminal, sizes) in
-        (omega arith, omega arith, sym (drop-map terminal (length symbols - length after) symbols) ∙ ap (drop (length symbols - length after)) all ∙ drop_at (take read (terminals symbols) ++ own) (terminals after) (length symbols - length after) place)
+        omega (arith, length-append (take read (terminals symbols)) own, length-take read (terminals symbols), length-map symbols terminal, sizes) in (
+          omega arith,
+          omega arith,
+          sym (drop-map terminal (length symbols - length after) symbols)
+              ∙ ap (drop (length symbols - length after)) all ∙ drop_at (take read (terminals symbols) ++ own) (terminals after) (length symbols - length after) place,
+        )
 
-    next_part : (read : ℕ) (x : X) (after : List Symbol) → read ≤ length symbols → item (terminals (drop read symbols)) ≡ Some (view x, terminals after)
+    next_part : (read : ℕ) (x : X) (after : List Symbol) → read ≤ length symbols
+        → item (terminals (drop read symbols)) ≡ Some (view x, terminals after)
         → (length after ≤ length symbols) × (read < length symbols - length after) × (terminals (drop (length symbols - length after) symbols) ≡ terminals after)
     next_part read x after within e = part read (spelling (view x)) after within (reader.longer (view x)) (reader.takes (terminals (drop read symbols)) (view x, terminals after) e)
 
-    step : (found : List X) (read : ℕ) (x : X) (after : List Symbol) → Going found read → is_some (mark_at (codes "}") (terminals (drop read symbols))) ≡ false
+    step : (found : List X) (read : ℕ) (x : X) (after : List Symbol) → Going found read
+        → is_some (mark_at (codes "}") (terminals (drop read symbols))) ≡ false
         → item (terminals (drop read symbols)) ≡ Some (view x, terminals after) → Going (found ++ x ∷ []) (length symbols - length after)
     step found read x after g unclosed e =
         let p = next_part read x after g.within e in
@@ -142,15 +156,19 @@ module _ {A : Type 0} {item : List Terminal → Option (A × List Terminal)} {sp
           within = omega arith;
           few = omega arith;
           so_far =
-              ap (λ (l : List A). with_front l (items_at item (suc (length symbols) - length (found ++ x ∷ [])) (terminals (drop (length symbols - length after) symbols)))) (map-append view found (x ∷ []))
-              ∙ ap (λ (n : ℕ). with_front (map view found ++ view x ∷ []) (items_at item n (terminals (drop (length symbols - length after) symbols)))) (let e1 : suc (length symbols) - length (found ++ x ∷ []) ≡ length symbols - length found = omega arith in e1)
+              ap (λ (l : List A). with_front l (items_at item (suc (length symbols) - length (found ++ x ∷ []))
+              (terminals (drop (length symbols - length after) symbols)))) (map-append view found (x ∷ []))
+              ∙ ap (λ (n : ℕ). with_front (map view found ++ view x ∷ []) (items_at item n (terminals (drop (length symbols - length after) symbols))))
+              (let e1 : suc (length symbols) - length (found ++ x ∷ []) ≡ length symbols - length found = omega arith in e1)
               ∙ ap (λ (l : List Terminal). with_front (map view found ++ view x ∷ []) (items_at item (length symbols - length found) l)) p.2
-              ∙ sym (goes_on (map view found) (length symbols - length found) (terminals (drop read symbols)) (view x) (terminals after) (none_from (mark_at (codes "}") (terminals (drop read symbols))) unclosed) e)
+              ∙ sym (goes_on (map view found) (length symbols - length found) (terminals (drop read symbols)) (view x)
+              (terminals after) (none_from (mark_at (codes "}") (terminals (drop read symbols))) unclosed) e)
               ∙ ap (λ (n : ℕ). with_front (map view found) (items_at item n (terminals (drop read symbols)))) (sym (left found read g))
               ∙ g.so_far;
         }
 
-    fails : (found : List X) (read : ℕ) → Going found read → is_some (mark_at (codes "}") (terminals (drop read symbols))) ≡ false → item (terminals (drop read symbols)) ≡ None
+    fails : (found : List X) (read : ℕ) → Going found read
+        → is_some (mark_at (codes "}") (terminals (drop read symbols))) ≡ false → item (terminals (drop read symbols)) ≡ None
         → block_at item (terminals symbols) ≡ None
     fails found read g unclosed e =
         sym g.so_far
@@ -182,9 +200,11 @@ module _ {A : Type 0} {item : List Terminal → Option (A × List Terminal)} {sp
     Going-step found read x after g unclosed e =
         step found read x after g (ap (λ (ts : List Terminal). is_some (mark_at (codes "}") ts)) (sym (rest-is read)) ∙ unclosed) (ap item (sym (rest-is read)) ∙ e)
 
-    pub Going-fails : (found : List X) (read : ℕ) → Going found read → is_some (mark_at (codes "}") (rest read)) ≡ false → item (rest read) ≡ None → block_at item (terminals symbols) ≡ None
+    pub Going-fails : (found : List X) (read : ℕ) → Going found read
+        → is_some (mark_at (codes "}") (rest read)) ≡ false → item (rest read) ≡ None → block_at item (terminals symbols) ≡ None
     Going-fails found read g unclosed e =
         fails found read g (ap (λ (ts : List Terminal). is_some (mark_at (codes "}") ts)) (sym (rest-is read)) ∙ unclosed) (ap item (sym (rest-is read)) ∙ e)
 
-    pub Going-ends : (found : List X) (read : ℕ) (after : List Terminal) → Going found read → mark_at (codes "}") (rest read) ≡ Some after → block_at item (terminals symbols) ≡ Some (map view found, after)
+    pub Going-ends : (found : List X) (read : ℕ) (after : List Terminal) → Going found read
+        → mark_at (codes "}") (rest read) ≡ Some after → block_at item (terminals symbols) ≡ Some (map view found, after)
     Going-ends found read after g closed = finishes found read after g (ap (mark_at (codes "}")) (sym (rest-is read)) ∙ closed)

@@ -51,7 +51,8 @@ place_takes (m ∷ ms) n k e = by (bytes_eq m n) refl (place_takes ms n) e
     later None ih f = absurd cc
     later (Some j) ih f = let e1 : suc j ≡ k = cc in ap (slice_get (m ∷ ms)) (sym e1) ∙ ih j refl
 
-    by : (r : Bool) → bytes_eq m n ≡ r → ((j : ℕ) → place_of ms n ≡ Some j → slice_get ms j ≡ Some n) → cond r (Some 0) (option_map suc (place_of ms n)) ≡ Some k → slice_get (m ∷ ms) k ≡ Some n
+    by : (r : Bool) → bytes_eq m n ≡ r → ((j : ℕ) → place_of ms n ≡ Some j → slice_get ms j ≡ Some n)
+        → cond r (Some 0) (option_map suc (place_of ms n)) ≡ Some k → slice_get (m ∷ ms) k ≡ Some n
     by true same ih f = let e0 : 0 ≡ k = cc in ap (slice_get (m ∷ ms)) (sym e0) ∙ ap (λ (x : List ℕ). Some x) (same_bytes m n same)
     by false other ih f = later (place_of ms n) ih f
 
@@ -85,7 +86,8 @@ field_of name kind = record { name = name; kind = kind }
 abbrev some_field : List ℕ → FieldKind → Option Field
 some_field name kind = Some (field_of name kind)
 
-pub int_place_takes : (fields : List Field) (n : List ℕ) (k : ℕ) → int_place_of fields n ≡ Some k → slice_get fields k ≡ Some (record { name = n; kind = int_kind })
+pub int_place_takes : (fields : List Field) (n : List ℕ) (k : ℕ) → int_place_of fields n ≡ Some k
+    → slice_get fields k ≡ Some (record { name = n; kind = int_kind })
 int_place_takes [] n k e = absurd cc
 int_place_takes (f ∷ fs) n k e = by (bytes_eq f.name n && is_int f.kind) refl (int_place_takes fs n) e
   where
@@ -96,11 +98,13 @@ int_place_takes (f ∷ fs) n k e = by (bytes_eq f.name n && is_int f.kind) refl 
     made : (name : List ℕ) (kind : FieldKind) → name ≡ n → kind ≡ int_kind → some_field name kind ≡ some_field n int_kind
     made name kind p q = cc
 
-    later : (o : Option ℕ) → ((j : ℕ) → o ≡ Some j → slice_get fs j ≡ Some (record { name = n; kind = int_kind })) → option_map suc o ≡ Some k → slice_get (f ∷ fs) k ≡ Some (record { name = n; kind = int_kind })
+    later : (o : Option ℕ) → ((j : ℕ) → o ≡ Some j → slice_get fs j ≡ Some (record { name = n; kind = int_kind })) → option_map suc o ≡ Some k
+        → slice_get (f ∷ fs) k ≡ Some (record { name = n; kind = int_kind })
     later None ih g = absurd cc
     later (Some j) ih g = let e1 : suc j ≡ k = cc in ap (slice_get (f ∷ fs)) (sym e1) ∙ ih j refl
 
-    by : (r : Bool) → (bytes_eq f.name n && is_int f.kind) ≡ r → ((j : ℕ) → int_place_of fs n ≡ Some j → slice_get fs j ≡ Some (record { name = n; kind = int_kind }))
+    by : (r : Bool) → (bytes_eq f.name n && is_int f.kind) ≡ r
+        → ((j : ℕ) → int_place_of fs n ≡ Some j → slice_get fs j ≡ Some (record { name = n; kind = int_kind }))
         → cond r (Some 0) (option_map suc (int_place_of fs n)) ≡ Some k → slice_get (f ∷ fs) k ≡ Some (record { name = n; kind = int_kind })
     by true same ih g =
         let e0 : 0 ≡ k = cc in
@@ -113,11 +117,13 @@ contains_name [] k f e = absurd cc
 contains_name (g ∷ gs) zero f e = let same : g ≡ f = cc in let P : Field → Type 0 = λ h. Contains (g.name ∷ map (λ x. x.name) gs) h.name in subst P same (first_in g.name (map (λ h. h.name) gs))
 contains_name (g ∷ gs) (suc k) f e = later_in g.name (map (λ h. h.name) gs) f.name (contains_name gs k f e)
 
-pub int_place_again : (fields : List Field) (n : List ℕ) (k : ℕ) → AreDistinct (map (λ f. f.name) fields) → slice_get fields k ≡ Some (record { name = n; kind = int_kind }) → int_place_of fields n ≡ Some k
+pub int_place_again : (fields : List Field) (n : List ℕ) (k : ℕ) → AreDistinct (map (λ f. f.name) fields)
+    → slice_get fields k ≡ Some (record { name = n; kind = int_kind }) → int_place_of fields n ≡ Some k
 int_place_again [] n k d e = absurd cc
 int_place_again (f ∷ fs) n zero d e = here f.name f.kind e
   where
-    here : (name : List ℕ) (kind : FieldKind) → some_field name kind ≡ some_field n int_kind → cond (bytes_eq name n && is_int kind) (Some 0) (option_map suc (int_place_of fs n)) ≡ Some 0
+    here : (name : List ℕ) (kind : FieldKind) → some_field name kind ≡ some_field n int_kind
+        → cond (bytes_eq name n && is_int kind) (Some 0) (option_map suc (int_place_of fs n)) ≡ Some 0
     here name kind g =
         let whole = some_is (field_of name kind) (field_of n int_kind) g in
         let same : name ≡ n = ap (λ (x : Field). x.name) whole in

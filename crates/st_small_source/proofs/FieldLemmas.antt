@@ -26,7 +26,8 @@ field_takes ts x e =
     let name = bind_some (name_then (codes ":") ts) (λ name. kind_at name.1 >>= λ kind. mark_at (codes ";") kind.1 >>= λ rest. Some (record { name = name.0; kind = kind.0 }, rest)) x e in
     let kind = bind_some (kind_at name.0.1) (λ kind. mark_at (codes ";") kind.1 >>= λ rest. Some (record { name = name.0.0; kind = kind.0 }, rest)) x name.2 in
     let rest = bind_some (mark_at (codes ";") kind.0.1) (λ rest. Some (record { name = name.0.0; kind = kind.0.0 }, rest)) x kind.2 in
-    joined ts name.0.0 name.0.1 kind.0.0 kind.0.1 rest.0 x (name_then_takes (codes ":") ts name.0 name.1) (kind_takes name.0.1 kind.0 kind.1) (mark_takes (codes ";") kind.0.1 rest.0 rest.1) (some_is (record { name = name.0.0; kind = kind.0.0 }, rest.0) x rest.2)
+    joined ts name.0.0 name.0.1 kind.0.0 kind.0.1 rest.0 x (name_then_takes (codes ":") ts name.0 name.1)
+    (kind_takes name.0.1 kind.0 kind.1) (mark_takes (codes ";") kind.0.1 rest.0 rest.1) (some_is (record { name = name.0.0; kind = kind.0.0 }, rest.0) x rest.2)
   where
     joined : (ts : List Terminal) (n : List ℕ) (a : List Terminal) (k : FieldKind) (b r : List Terminal) (x : Field × List Terminal)
         → ts ≡ a_name n ∷ mark (codes ":") ∷ a → a ≡ kind_spelling k ∷ b → b ≡ mark (codes ";") ∷ r → (record { name = n; kind = k }, r) ≡ x → ts ≡ field_spelling x.0 ++ x.1
@@ -35,7 +36,8 @@ field_takes ts x e =
         ∙ ap (λ (l : List Terminal). a_name n ∷ mark (codes ":") ∷ l) (q ∙ ap (λ (l : List Terminal). kind_spelling k ∷ l) s)
         ∙ ap (λ (y : Field × List Terminal). field_spelling y.0 ++ y.1) e
 
-field_again_at : (name : List ℕ) (kind : FieldKind) (rest : List Terminal) → field_at (field_spelling (record { name = name; kind = kind }) ++ rest) ≡ Some (record { name = name; kind = kind }, rest)
+field_again_at : (name : List ℕ) (kind : FieldKind) (rest : List Terminal)
+    → field_at (field_spelling (record { name = name; kind = kind }) ++ rest) ≡ Some (record { name = name; kind = kind }, rest)
 unfolding field_at name_then name_at mark_at kind_at
 field_again_at name int_kind rest = refl
 field_again_at name (class_kind class) rest = refl

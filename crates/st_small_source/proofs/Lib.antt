@@ -1,6 +1,7 @@
 pub mod AnswerLemmas
 pub mod BlockLemmas
 pub mod DistinctLemmas
+mod Examples
 pub mod FieldLemmas
 pub mod NumberLemmas
 pub mod ProgramLemmas

@@ -31,7 +31,8 @@ ended_takes : {A : Type 0} (x y : A) (ts : List Terminal) → ended x ts ≡ Som
 ended_takes x y [] e = (refl, some_is x y e)
 ended_takes x y (t ∷ ts) e = absurd cc
 
-head_takes : (word : List ℕ) (ts : List Terminal) (x : List ℕ × List Terminal) → head_at word ts ≡ Some x → ts ≡ keyword word ∷ a_name x.0 ∷ mark (codes "{") ∷ x.1
+head_takes : (word : List ℕ) (ts : List Terminal) (x : List ℕ × List Terminal) → head_at word ts ≡ Some x
+    → ts ≡ keyword word ∷ a_name x.0 ∷ mark (codes "{") ∷ x.1
 unfolding head_at
 head_takes word ts x e =
     let start = bind_some (keyword_at word ts) (λ start. name_then (codes "{") start) x e in
@@ -58,9 +59,12 @@ joined ts class fields thread body p c f t b e same =
 pub program_takes : (ts : List Terminal) (p : Program) → program_at ts ≡ Some p → ts ≡ program_spelling p
 unfolding program_at
 program_takes ts p e =
-    let class = bind_some (head_at (codes "class") ts) (λ class. block_at field_at class.1 >>= λ fields. head_at (codes "thread") fields.1 >>= λ thread. block_at statement_at thread.1 >>= λ body. ended (record { class = class.0; fields = fields.0; thread = thread.0; body = body.0 }) body.1) p e in
-    let fields = bind_some (block_at field_at class.0.1) (λ fields. head_at (codes "thread") fields.1 >>= λ thread. block_at statement_at thread.1 >>= λ body. ended (record { class = class.0.0; fields = fields.0; thread = thread.0; body = body.0 }) body.1) p class.2 in
-    let thread = bind_some (head_at (codes "thread") fields.0.1) (λ thread. block_at statement_at thread.1 >>= λ body. ended (record { class = class.0.0; fields = fields.0.0; thread = thread.0; body = body.0 }) body.1) p fields.2 in
+    let class = bind_some (head_at (codes "class") ts) (λ class. block_at field_at class.1 >>= λ fields. head_at (codes "thread") fields.1
+    >>= λ thread. block_at statement_at thread.1 >>= λ body. ended (record { class = class.0; fields = fields.0; thread = thread.0; body = body.0 }) body.1) p e in
+    let fields = bind_some (block_at field_at class.0.1) (λ fields. head_at (codes "thread") fields.1
+    >>= λ thread. block_at statement_at thread.1 >>= λ body. ended (record { class = class.0.0; fields = fields.0; thread = thread.0; body = body.0 }) body.1) p class.2 in
+    let thread = bind_some (head_at (codes "thread") fields.0.1)
+    (λ thread. block_at statement_at thread.1 >>= λ body. ended (record { class = class.0.0; fields = fields.0.0; thread = thread.0; body = body.0 }) body.1) p fields.2 in
     let body = bind_some (block_at statement_at thread.0.1) (λ body. ended (record { class = class.0.0; fields = fields.0.0; thread = thread.0.0; body = body.0 }) body.1) p thread.2 in
     let end = ended_takes (record { class = class.0.0; fields = fields.0.0; thread = thread.0.0; body = body.0.0 }) p body.0.1 body.2 in
     joined ts class.0 fields.0 thread.0 body.0 p (head_takes (codes "class") ts class.0 class.1) (items_take field_reader (suc (length class.0.1)) class.0.1 fields.0 fields.1)

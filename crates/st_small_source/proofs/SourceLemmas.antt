@@ -16,10 +16,11 @@ use Rattle.st_small_source.specs.Grammar.{FieldKind, int_kind, class_kind, Field
 use Rattle.st_small_source.specs.Numbering.{place_of, int_place_of, place_numbers, is_make_right, is_of_class, are_distinct, is_class_right, numbered, numbered_body, numbered_program}
 use Rattle.st_small_source.specs.Reading.{◌>>=◌}
 use Rattle.st_small_source.specs.Small.{SmallLists}
-use Rattle.st_small_source.specs.Source.{AreDistinct, IsOfClass, NamesClass, made_by, locals_of, KeepsRules, IsPlace, IsNumbered, AreNumbered, kind_of, HasNumbers}
+use Rattle.st_small_source.specs.Source.{AreDistinct, IsOfClass, NamesClass, made_by, locals_of, KeepsRules, IsPlace, IsNumbered, AreNumbered, kind_in_numbers, HasNumbers}
 use Rattle.st_small_source.proofs.TerminalLemmas.{same_bytes, bytes_eq_self, bind_some, some_is}
 use Rattle.st_small_source.proofs.NumberLemmas.{both_true}
-use Rattle.st_small_source.proofs.DistinctLemmas.{place_takes, place_again, int_place_takes, int_place_again, place_absent, absent_place, distinct_takes, distinct_again, distinct_front, distinct_fresh, distinct_push}
+use Rattle.st_small_source.proofs.DistinctLemmas.{place_takes, place_again, int_place_takes, int_place_again, place_absent, absent_place}
+use Rattle.st_small_source.proofs.DistinctLemmas.{distinct_takes, distinct_again, distinct_front, distinct_fresh, distinct_push}
 
 is_none_true : {A : Type 0} (o : Option A) → is_none o ≡ true → o ≡ None
 is_none_true None e = refl
@@ -30,7 +31,8 @@ is_none_true (Some x) e = absurd cc
 abbrev pair : ℕ → ℕ → ℕ × ℕ
 pair l f = (l, f)
 
-numbers_take : (fields : List Field) (before : List (List ℕ)) (local field : List ℕ) (p : ℕ × ℕ) → place_numbers fields before local field ≡ Some p → IsPlace fields before local field p.0 p.1
+numbers_take : (fields : List Field) (before : List (List ℕ)) (local field : List ℕ) (p : ℕ × ℕ) → place_numbers fields before local field ≡ Some p
+    → IsPlace fields before local field p.0 p.1
 unfolding place_numbers
 numbers_take fields before local field p e =
     let l = bind_some (place_of before local) (λ l. int_place_of fields field >>= λ f. Some (l, f)) p e in
@@ -38,7 +40,8 @@ numbers_take fields before local field p e =
     subst (λ (q : ℕ × ℕ). IsPlace fields before local field q.0 q.1) (some_is (l.0, f.0) p f.2)
     (record { made = place_takes before local l.0 l.1; is_int = int_place_takes fields field f.0 f.1 })
 
-numbers_again : (fields : List Field) (before : List (List ℕ)) (local field : List ℕ) (l f : ℕ) → AreDistinct before → AreDistinct (map (λ g. g.name) fields)
+numbers_again : (fields : List Field) (before : List (List ℕ)) (local field : List ℕ) (l f : ℕ) → AreDistinct before
+    → AreDistinct (map (λ g. g.name) fields)
     → IsPlace fields before local field l f → place_numbers fields before local field ≡ Some (pair l f)
 unfolding place_numbers
 numbers_again fields before local field l f d e h =
@@ -55,7 +58,8 @@ record IsMadeRight (class : List ℕ) (before : List (List ℕ)) (local kind mad
   few : length before < MOST_LOCALS
   fresh : place_of before local ≡ None
 
-right_takes : (class : List ℕ) (before : List (List ℕ)) (local kind made : List ℕ) → is_make_right class before local kind made ≡ true → IsMadeRight class before local kind made
+right_takes : (class : List ℕ) (before : List (List ℕ)) (local kind made : List ℕ) → is_make_right class before local kind made ≡ true
+    → IsMadeRight class before local kind made
 right_takes class before local kind made e =
     let a = both_true (bytes_eq kind class && bytes_eq made class && ltb (length before) MOST_LOCALS) (is_none (place_of before local)) e in
     let b = both_true (bytes_eq kind class && bytes_eq made class) (ltb (length before) MOST_LOCALS) a.0 in
@@ -65,7 +69,8 @@ right_takes class before local kind made e =
 equal_bytes : (a b : List ℕ) → a ≡ b → bytes_eq a b ≡ true
 equal_bytes a b e = ap (bytes_eq a) (sym e) ∙ bytes_eq_self a
 
-right_again : (class : List ℕ) (before : List (List ℕ)) (local kind made : List ℕ) → IsMadeRight class before local kind made → is_make_right class before local kind made ≡ true
+right_again : (class : List ℕ) (before : List (List ℕ)) (local kind made : List ℕ) → IsMadeRight class before local kind made
+    → is_make_right class before local kind made ≡ true
 right_again class before local kind made h =
     let a = equal_bytes kind class h.kinds in
     let b = equal_bytes made class h.makes in
@@ -79,7 +84,8 @@ put p value = small.Put p.0 p.1 value
 abbrev check : ℕ × ℕ → ℕ → Site → SmallStmt
 check p value site = small.Check p.0 p.1 value site
 
-numbered_takes : (class : List ℕ) (fields : List Field) (before : List (List ℕ)) (s : Statement) (o : SmallStmt) → numbered class fields before s ≡ Some o
+numbered_takes : (class : List ℕ) (fields : List Field) (before : List (List ℕ)) (s : Statement) (o : SmallStmt)
+    → numbered class fields before s ≡ Some o
     → IsNumbered fields before s o × NamesClass class s
 unfolding numbered
 numbered_takes class fields before (make_local local kind made) o e =
@@ -94,7 +100,8 @@ numbered_takes class fields before (check_field local field value site) o e =
     (subst (λ (n : SmallStmt). IsNumbered fields before (check_field local field value site) n) (some_is (check p.0 value site) o p.2) (numbers_take fields before local field p.0 p.1, refl, refl), tt)
 
 -- the locals with those of one more statement
-grown_takes : (class : List ℕ) (fields : List Field) (before : List (List ℕ)) (s : Statement) (o : SmallStmt) → numbered class fields before s ≡ Some o → AreDistinct before → length before ≤ MOST_LOCALS
+grown_takes : (class : List ℕ) (fields : List Field) (before : List (List ℕ)) (s : Statement) (o : SmallStmt)
+    → numbered class fields before s ≡ Some o → AreDistinct before → length before ≤ MOST_LOCALS
     → AreDistinct (before ++ made_by s) × (length (before ++ made_by s) ≤ MOST_LOCALS)
 unfolding numbered
 grown_takes class fields before (make_local local kind made) o e d few =
@@ -104,7 +111,8 @@ grown_takes class fields before (make_local local kind made) o e d few =
 grown_takes class fields before (put_field local field value) o e d few = (rw (append-nil before) d, rw (append-nil before) few)
 grown_takes class fields before (check_field local field value site) o e d few = (rw (append-nil before) d, rw (append-nil before) few)
 
-numbered_again : (class : List ℕ) (fields : List Field) (before : List (List ℕ)) (s : Statement) (o : SmallStmt) (later : List (List ℕ)) → AreDistinct (map (λ f. f.name) fields)
+numbered_again : (class : List ℕ) (fields : List Field) (before : List (List ℕ)) (s : Statement) (o : SmallStmt) (later : List (List ℕ))
+    → AreDistinct (map (λ f. f.name) fields)
     → AreDistinct (before ++ made_by s ++ later) → length (before ++ made_by s ++ later) ≤ MOST_LOCALS → NamesClass class s → IsNumbered fields before s o → numbered class fields before s ≡ Some o
 unfolding numbered
 numbered_again class fields before (make_local local kind made) small.Make later fd d few names n =
@@ -141,7 +149,8 @@ record AreRight (class : List ℕ) (fields : List Field) (before : List (List �
   differ : AreDistinct (before ++ locals_of ss)
   few : length (before ++ locals_of ss) ≤ MOST_LOCALS
 
-body_takes : (class : List ℕ) (fields : List Field) (before : List (List ℕ)) (ss : List Statement) (ns : List SmallStmt) → numbered_body class fields before ss ≡ Some ns
+body_takes : (class : List ℕ) (fields : List Field) (before : List (List ℕ)) (ss : List Statement) (ns : List SmallStmt)
+    → numbered_body class fields before ss ≡ Some ns
     → AreDistinct before → length before ≤ MOST_LOCALS → AreRight class fields before ss ns
 unfolding numbered_body
 body_takes class fields before [] ns e d few =
@@ -160,7 +169,8 @@ body_takes class fields before (s ∷ ss) ns e d few =
       few = subst (λ (l : List (List ℕ)). length l ≤ MOST_LOCALS) (sym (regrouped before s ss)) more.few;
     })
 
-body_again : (class : List ℕ) (fields : List Field) (before : List (List ℕ)) (ss : List Statement) (ns : List SmallStmt) → AreDistinct (map (λ f. f.name) fields) → AreRight class fields before ss ns
+body_again : (class : List ℕ) (fields : List Field) (before : List (List ℕ)) (ss : List Statement) (ns : List SmallStmt)
+    → AreDistinct (map (λ f. f.name) fields) → AreRight class fields before ss ns
     → numbered_body class fields before ss ≡ Some ns
 unfolding numbered_body
 body_again class fields before [] [] fd h = refl
@@ -185,7 +195,8 @@ kinds_take class (f ∷ fs) e =
     one name int_kind h = tt
     one name (class_kind other) h = same_bytes other class h
 
-kinds_again : (class : List ℕ) (fields : List Field) → AllByRecursion (IsOfClass class) fields → list_all (λ f. is_of_class class f.kind) fields ≡ true
+kinds_again : (class : List ℕ) (fields : List Field) → AllByRecursion (IsOfClass class) fields
+    → list_all (λ f. is_of_class class f.kind) fields ≡ true
 kinds_again class [] h = refl
 kinds_again class (f ∷ fs) h = let first = one f.name f.kind h.0 in let others = kinds_again class fs h.1 in rw (first, others) refl
   where
@@ -205,11 +216,12 @@ chosen false o x e = absurd cc
 pub program_takes : (p : Program) (small : SmallLists) → numbered_program p ≡ Some small → KeepsRules p × HasNumbers p small
 unfolding numbered_program is_class_right
 program_takes p small e =
-    let made = chosen (is_class_right p.class p.fields && nat_le (length p.body) MOST_STATEMENTS) (numbered_body p.class p.fields [] p.body >>= λ body. Some (lists p.thread (map (λ f. kind_of f.kind) p.fields) body)) small e in
+    let made = chosen (is_class_right p.class p.fields && nat_le (length p.body) MOST_STATEMENTS)
+    (numbered_body p.class p.fields [] p.body >>= λ body. Some (lists p.thread (map (λ f. kind_in_numbers f.kind) p.fields) body)) small e in
     let tests = both_true (is_class_right p.class p.fields) (nat_le (length p.body) MOST_STATEMENTS) made.0 in
     let class = both_true (nat_le (length p.fields) MOST_FIELDS && are_distinct (map (λ f. f.name) p.fields)) (list_all (λ f. is_of_class p.class f.kind) p.fields) tests.0 in
     let fields = both_true (nat_le (length p.fields) MOST_FIELDS) (are_distinct (map (λ f. f.name) p.fields)) class.0 in
-    let body = bind_some (numbered_body p.class p.fields [] p.body) (λ body. Some (lists p.thread (map (λ f. kind_of f.kind) p.fields) body)) small made.1 in
+    let body = bind_some (numbered_body p.class p.fields [] p.body) (λ body. Some (lists p.thread (map (λ f. kind_in_numbers f.kind) p.fields) body)) small made.1 in
     let right = body_takes p.class p.fields [] p.body body.0 body.1 tt (omega arith) in (
       record {
         field_classes = kinds_take p.class p.fields class.1;
@@ -220,7 +232,7 @@ program_takes p small e =
         few_locals = right.few;
         few_statements = leb-true _ _ tests.1;
       },
-      subst (HasNumbers p) (some_is (lists p.thread (map (λ f. kind_of f.kind) p.fields) body.0) small body.2) (record { thread = refl; fields = refl; body = right.numbers }),
+      subst (HasNumbers p) (some_is (lists p.thread (map (λ f. kind_in_numbers f.kind) p.fields) body.0) small body.2) (record { thread = refl; fields = refl; body = right.numbers }),
     )
 
 pub program_again : (p : Program) (small : SmallLists) → KeepsRules p → HasNumbers p small → numbered_program p ≡ Some small

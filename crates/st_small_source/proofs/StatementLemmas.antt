@@ -10,9 +10,12 @@ use Rattle.st_small_source.proofs.TerminalLemmas.{bind_some, some_is, name_then_
 make_takes : (ts : List Terminal) (x : Statement × List Terminal) → make_at ts ≡ Some x → ts ≡ statement_spelling x.0 ++ x.1
 unfolding make_at
 make_takes ts x e =
-    let var = bind_some (keyword_at (codes "var") ts) (λ var. name_then (codes ":") var >>= λ local. name_then (codes "=") local.1 >>= λ class. keyword_at (codes "new") class.1 >>= λ new. name_then (codes ";") new >>= λ made. Some (make_local local.0 class.0 made.0, made.1)) x e in
-    let local = bind_some (name_then (codes ":") var.0) (λ local. name_then (codes "=") local.1 >>= λ class. keyword_at (codes "new") class.1 >>= λ new. name_then (codes ";") new >>= λ made. Some (make_local local.0 class.0 made.0, made.1)) x var.2 in
-    let class = bind_some (name_then (codes "=") local.0.1) (λ class. keyword_at (codes "new") class.1 >>= λ new. name_then (codes ";") new >>= λ made. Some (make_local local.0.0 class.0 made.0, made.1)) x local.2 in
+    let var = bind_some (keyword_at (codes "var") ts) (λ var. name_then (codes ":") var >>= λ local. name_then (codes "=") local.1
+    >>= λ class. keyword_at (codes "new") class.1 >>= λ new. name_then (codes ";") new >>= λ made. Some (make_local local.0 class.0 made.0, made.1)) x e in
+    let local = bind_some (name_then (codes ":") var.0) (λ local. name_then (codes "=") local.1 >>= λ class. keyword_at (codes "new") class.1
+    >>= λ new. name_then (codes ";") new >>= λ made. Some (make_local local.0 class.0 made.0, made.1)) x var.2 in
+    let class = bind_some (name_then (codes "=") local.0.1) (λ class. keyword_at (codes "new") class.1
+    >>= λ new. name_then (codes ";") new >>= λ made. Some (make_local local.0.0 class.0 made.0, made.1)) x local.2 in
     let new = bind_some (keyword_at (codes "new") class.0.1) (λ new. name_then (codes ";") new >>= λ made. Some (make_local local.0.0 class.0.0 made.0, made.1)) x class.2 in
     let made = bind_some (name_then (codes ";") new.0) (λ made. Some (make_local local.0.0 class.0.0 made.0, made.1)) x new.2 in
     joined ts var.0 local.0.0 local.0.1 class.0.0 class.0.1 new.0 made.0.0 made.0.1 x
@@ -33,7 +36,8 @@ make_takes ts x e =
 put_takes : (ts : List Terminal) (x : Statement × List Terminal) → put_at ts ≡ Some x → ts ≡ statement_spelling x.0 ++ x.1
 unfolding put_at
 put_takes ts x e =
-    let local = bind_some (name_then (codes ".") ts) (λ local. name_then (codes "=") local.1 >>= λ field. number_then (codes ";") field.1 >>= λ value. Some (put_field local.0 field.0 value.0, value.1)) x e in
+    let local = bind_some (name_then (codes ".") ts) (λ local. name_then (codes "=") local.1 >>= λ field. number_then (codes ";") field.1
+    >>= λ value. Some (put_field local.0 field.0 value.0, value.1)) x e in
     let field = bind_some (name_then (codes "=") local.0.1) (λ field. number_then (codes ";") field.1 >>= λ value. Some (put_field local.0.0 field.0 value.0, value.1)) x local.2 in
     let value = bind_some (number_then (codes ";") field.0.1) (λ value. Some (put_field local.0.0 field.0.0 value.0, value.1)) x field.2 in
     joined ts local.0.0 local.0.1 field.0.0 field.0.1 value.0.0 value.0.1 x
@@ -51,12 +55,15 @@ put_takes ts x e =
 check_takes : (ts : List Terminal) (x : Statement × List Terminal) → check_statement_at ts ≡ Some x → ts ≡ statement_spelling x.0 ++ x.1
 unfolding check_statement_at
 check_takes ts x e =
-    let check = bind_some (check_word_at ts) (λ check. name_then (codes ".") check.1 >>= λ local. name_then (codes "==") local.1 >>= λ field. number_then (codes ";") field.1 >>= λ value. Some (check_field local.0 field.0 value.0 check.0, value.1)) x e in
-    let local = bind_some (name_then (codes ".") check.0.1) (λ local. name_then (codes "==") local.1 >>= λ field. number_then (codes ";") field.1 >>= λ value. Some (check_field local.0 field.0 value.0 check.0.0, value.1)) x check.2 in
+    let check = bind_some (check_word_at ts) (λ check. name_then (codes ".") check.1 >>= λ local. name_then (codes "==") local.1
+    >>= λ field. number_then (codes ";") field.1 >>= λ value. Some (check_field local.0 field.0 value.0 check.0, value.1)) x e in
+    let local = bind_some (name_then (codes ".") check.0.1) (λ local. name_then (codes "==") local.1
+    >>= λ field. number_then (codes ";") field.1 >>= λ value. Some (check_field local.0 field.0 value.0 check.0.0, value.1)) x check.2 in
     let field = bind_some (name_then (codes "==") local.0.1) (λ field. number_then (codes ";") field.1 >>= λ value. Some (check_field local.0.0 field.0 value.0 check.0.0, value.1)) x local.2 in
     let value = bind_some (number_then (codes ";") field.0.1) (λ value. Some (check_field local.0.0 field.0.0 value.0 check.0.0, value.1)) x field.2 in
     joined ts check.0.0 check.0.1 local.0.0 local.0.1 field.0.0 field.0.1 value.0.0 value.0.1 x
-    (check_word_takes ts check.0 check.1) (name_then_takes (codes ".") check.0.1 local.0 local.1) (name_then_takes (codes "==") local.0.1 field.0 field.1) (number_then_takes (codes ";") field.0.1 value.0 value.1)
+    (check_word_takes ts check.0 check.1) (name_then_takes (codes ".") check.0.1 local.0 local.1)
+    (name_then_takes (codes "==") local.0.1 field.0 field.1) (number_then_takes (codes ";") field.0.1 value.0 value.1)
     (some_is (check_field local.0.0 field.0.0 value.0.0 check.0.0, value.0.1) x value.2)
   where
     joined : (ts : List Terminal) (site : Site) (a : List Terminal) (l : List ℕ) (b : List Terminal) (f : List ℕ) (c : List Terminal) (v : ℕ) (r : List Terminal) (x : Statement × List Terminal)

@@ -78,22 +78,26 @@ mark_takes word (mark bytes ∷ more) rest e =
     let rests = parts.1 in
     cc
 
-pub name_then_takes : (word : List ℕ) (ts : List Terminal) (x : List ℕ × List Terminal) → name_then word ts ≡ Some x → ts ≡ a_name x.0 ∷ mark word ∷ x.1
+pub name_then_takes : (word : List ℕ) (ts : List Terminal) (x : List ℕ × List Terminal) → name_then word ts ≡ Some x
+    → ts ≡ a_name x.0 ∷ mark word ∷ x.1
 unfolding name_then
 name_then_takes word ts x e =
     let name = bind_some (name_at ts) (λ name. mark_at word name.1 >>= λ rest. Some (name.0, rest)) x e in
     let rest = bind_some (mark_at word name.0.1) (λ rest. Some (name.0.0, rest)) x name.2 in
     joined ts name.0.0 name.0.1 rest.0 x (name_takes ts name.0 name.1) (mark_takes word name.0.1 rest.0 rest.1) (some_is (name.0.0, rest.0) x rest.2)
   where
-    joined : (ts : List Terminal) (n : List ℕ) (a r : List Terminal) (x : List ℕ × List Terminal) → ts ≡ a_name n ∷ a → a ≡ mark word ∷ r → (n, r) ≡ x → ts ≡ a_name x.0 ∷ mark word ∷ x.1
+    joined : (ts : List Terminal) (n : List ℕ) (a r : List Terminal) (x : List ℕ × List Terminal) → ts ≡ a_name n ∷ a → a ≡ mark word ∷ r → (n, r) ≡ x
+        → ts ≡ a_name x.0 ∷ mark word ∷ x.1
     joined ts n a r x p q e = p ∙ ap (λ (l : List Terminal). a_name n ∷ l) q ∙ ap (λ (y : List ℕ × List Terminal). a_name y.0 ∷ mark word ∷ y.1) e
 
-pub number_then_takes : (word : List ℕ) (ts : List Terminal) (x : ℕ × List Terminal) → number_then word ts ≡ Some x → ts ≡ a_number x.0 ∷ mark word ∷ x.1
+pub number_then_takes : (word : List ℕ) (ts : List Terminal) (x : ℕ × List Terminal) → number_then word ts ≡ Some x
+    → ts ≡ a_number x.0 ∷ mark word ∷ x.1
 unfolding number_then
 number_then_takes word ts x e =
     let value = bind_some (number_at ts) (λ value. mark_at word value.1 >>= λ rest. Some (value.0, rest)) x e in
     let rest = bind_some (mark_at word value.0.1) (λ rest. Some (value.0.0, rest)) x value.2 in
     joined ts value.0.0 value.0.1 rest.0 x (number_takes ts value.0 value.1) (mark_takes word value.0.1 rest.0 rest.1) (some_is (value.0.0, rest.0) x rest.2)
   where
-    joined : (ts : List Terminal) (n : ℕ) (a r : List Terminal) (x : ℕ × List Terminal) → ts ≡ a_number n ∷ a → a ≡ mark word ∷ r → (n, r) ≡ x → ts ≡ a_number x.0 ∷ mark word ∷ x.1
+    joined : (ts : List Terminal) (n : ℕ) (a r : List Terminal) (x : ℕ × List Terminal) → ts ≡ a_number n ∷ a → a ≡ mark word ∷ r → (n, r) ≡ x
+        → ts ≡ a_number x.0 ∷ mark word ∷ x.1
     joined ts n a r x p q e = p ∙ ap (λ (l : List Terminal). a_number n ∷ l) q ∙ ap (λ (y : ℕ × List Terminal). a_number y.0 ∷ mark word ∷ y.1) e

@@ -33,7 +33,8 @@ below k n = cond (ltb k n) (Some k) None
 below-suc : (k n : ℕ) → below (1 + k) (suc n) ≡ option_map suc (below k n)
 below-suc k n =
     elim (cases_lt k n) [
-      | inl lt ↦ (let here : ltb k n ≡ true = lt-ltb _ _ lt in let there : ltb (1 + k) (suc n) ≡ true = lt-ltb _ _ (omega arith) in rw (here, there) (let e : 1 + k ≡ suc k = omega arith in ap (λ (m : ℕ). Some m) e))
+      | inl lt ↦ (let here : ltb k n ≡ true = lt-ltb _ _ lt in
+          let there : ltb (1 + k) (suc n) ≡ true = lt-ltb _ _ (omega arith) in rw (here, there) (let e : 1 + k ≡ suc k = omega arith in ap (λ (m : ℕ). Some m) e))
       | inr le ↦ (let here : ltb k n ≡ false = le-ltb _ _ le in let there : ltb (1 + k) (suc n) ≡ false = le-ltb _ _ (omega arith) in rw (here, there) refl)
     ]
 
@@ -49,7 +50,8 @@ position-is p (x ∷ xs) = first_is p x xs (p x) (position-is p xs)
 pub place_of_views : (locals : List (Bor (List ℕ))) (name : List ℕ) → position (λ l. bytes_eq l.now name) locals ≡ place_of (name_views locals) name
 place_of_views locals name = position-is (λ l. bytes_eq l.now name) locals ∙ sym (first_at_of_map (λ n. bytes_eq n name) (λ l. l.now) locals)
 
-pub int_place_of_views : (fields : List FieldTree) (name : List ℕ) → position (λ f. bytes_eq f.name.now name && is_int (kind_view f.kind)) fields ≡ int_place_of (map field_view fields) name
+pub int_place_of_views : (fields : List FieldTree) (name : List ℕ)
+    → position (λ f. bytes_eq f.name.now name && is_int (kind_view f.kind)) fields ≡ int_place_of (map field_view fields) name
 int_place_of_views fields name =
     position-is (λ f. bytes_eq f.name.now name && is_int (kind_view f.kind)) fields ∙ sym (first_at_of_map (λ f. bytes_eq f.name name && is_int f.kind) field_view fields)
 
@@ -64,18 +66,21 @@ field_at fields name = position (λ f. bytes_eq f.name.now name && is_int (kind_
 abbrev numbers : List FieldTree → List (Bor (List ℕ)) → List ℕ → List ℕ → Option (ℕ × ℕ)
 numbers fields locals local field = place_numbers (map field_view fields) (name_views locals) local field
 
-pub no_local : (fields : List FieldTree) (locals : List (Bor (List ℕ))) (local field : List ℕ) → None ≡ local_at locals local → None ≡ numbers fields locals local field
+pub no_local : (fields : List FieldTree) (locals : List (Bor (List ℕ))) (local field : List ℕ) → None ≡ local_at locals local
+    → None ≡ numbers fields locals local field
 unfolding place_numbers
 no_local fields locals local field l = let at = sym (l ∙ place_of_views locals local) in rw at refl
 
-pub no_field : (fields : List FieldTree) (locals : List (Bor (List ℕ))) (local field : List ℕ) (n : ℕ) → Some n ≡ local_at locals local → None ≡ field_at fields field → None ≡ numbers fields locals local field
+pub no_field : (fields : List FieldTree) (locals : List (Bor (List ℕ))) (local field : List ℕ) (n : ℕ) → Some n ≡ local_at locals local
+    → None ≡ field_at fields field → None ≡ numbers fields locals local field
 unfolding place_numbers
 no_field fields locals local field n l f =
     let at = sym (l ∙ place_of_views locals local) in
     let nowhere = sym (f ∙ int_place_of_views fields field) in
     rw (at, nowhere) refl
 
-pub both : (fields : List FieldTree) (locals : List (Bor (List ℕ))) (local field : List ℕ) (n m : ℕ) → Some n ≡ local_at locals local → Some m ≡ field_at fields field → Some (n, m) ≡ numbers fields locals local field
+pub both : (fields : List FieldTree) (locals : List (Bor (List ℕ))) (local field : List ℕ) (n m : ℕ) → Some n ≡ local_at locals local
+    → Some m ≡ field_at fields field → Some (n, m) ≡ numbers fields locals local field
 unfolding place_numbers
 both fields locals local field n m l f =
     let at = sym (l ∙ place_of_views locals local) in

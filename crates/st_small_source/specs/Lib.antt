@@ -1,4 +1,4 @@
-pub mod Answers
+pub mod Built
 pub mod Grammar
 pub mod Numbering
 pub mod Reading

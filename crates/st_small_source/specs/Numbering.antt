@@ -9,7 +9,7 @@ use Rattle.st_small_source.specs.declared.limits.TheConstants.{MOST_FIELDS, MOST
 use Rattle.st_small_source.specs.Grammar.{FieldKind, int_kind, class_kind, Field, Statement, make_local, put_field, check_field, Program}
 use Rattle.st_small_source.specs.Reading.{◌>>=◌}
 use Rattle.st_small_source.specs.Small.{SmallLists}
-use Rattle.st_small_source.specs.Source.{kind_of, made_by}
+use Rattle.st_small_source.specs.Source.{kind_in_numbers, made_by}
 
 -- the place of the first that passes the test
 abbrev pub first_at : {X : Type 0} → (X → Bool) → List X → Option ℕ
@@ -75,5 +75,5 @@ numbered_body class fields locals (s ∷ ss) = do
 unfoldable pub numbered_program : Program → Option SmallLists
 numbered_program p =
     if is_class_right p.class p.fields && nat_le (length p.body) MOST_STATEMENTS
-    then (numbered_body p.class p.fields [] p.body >>= λ body. Some (record { thread = p.thread; fields = map (λ f. kind_of f.kind) p.fields; body = body }))
+    then (numbered_body p.class p.fields [] p.body >>= λ body. Some (record { thread = p.thread; fields = map (λ f. kind_in_numbers f.kind) p.fields; body = body }))
     else None

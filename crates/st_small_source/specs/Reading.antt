@@ -2,23 +2,23 @@
 use Rattle.std.specs.Prelude.{◌≡◌, ℕ, zero, suc, List, [], ◌∷◌, length, codes, Option, Some, None, Result, Ok, Err, option_and_then, if◌then◌else◌}
 use Rattle.std.specs.Str.{bytes_eq}
 use Rattle.st_events.specs.declared.events.Site.{Site}
-use Rattle.st_small_source.specs.declared.refusals.SmallError.{SmallError}
-use Rattle.st_small_source.specs.declared.refusals.SmallError.TheVariants as errors
+use Rattle.st_small_source.specs.declared.errors.SmallError.{SmallError}
+use Rattle.st_small_source.specs.declared.errors.SmallError.TheVariants as errors
 use Rattle.st_small_source.specs.Grammar.{Terminal, a_name, a_number, check_at, keyword, mark, FieldKind, int_kind, class_kind, Field, Statement, make_local, put_field, check_field, Program}
 
 -- what a function returned, seen by view, is what reading gives
-abbrev pub Reads : {X Y : Type 0} → (X → Y) → Option X → Option Y → Type 0
-Reads view (Some x) read = read ≡ Some (view x)
-Reads view None read = read ≡ None
+abbrev pub ReadsAs : {X Y : Type 0} → (X → Y) → Option X → Option Y → Type 0
+ReadsAs view (Some x) read = read ≡ Some (view x)
+ReadsAs view None read = read ≡ None
 
 -- the same, unless memory ran out
 abbrev pub Fails : {Y : Type 0} → SmallError → Option Y → Type 0
 Fails errors.Memory read = Unit {0}
 Fails errors.NotBuilt read = read ≡ None
 
-abbrev pub Gives : {X Y : Type 0} → (X → Y) → Result X SmallError → Option Y → Type 0
-Gives view (Ok x) read = read ≡ Some (view x)
-Gives view (Err e) read = Fails e read
+abbrev pub GivesAs : {X Y : Type 0} → (X → Y) → Result X SmallError → Option Y → Type 0
+GivesAs view (Ok x) read = read ≡ Some (view x)
+GivesAs view (Err e) read = Fails e read
 
 infixl 10 ◌>>=◌
 abbrev pub ◌>>=◌ : {A B : Type 0} → Option A → (A → Option B) → Option B

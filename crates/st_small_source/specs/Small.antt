@@ -1,3 +1,4 @@
+-- A small program as contracts see it.
 use Rattle.std.specs.Prelude.{ℕ, List}
 use Rattle.st_events.specs.declared.shapes.Kind.{Kind}
 use Rattle.st_small_source.specs.declared.programs.SmallStmt.{SmallStmt}

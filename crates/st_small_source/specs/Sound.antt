@@ -12,13 +12,13 @@ abbrev pub IsWithin : List Kind → ℕ → ℕ → ℕ → Type 0
 IsWithin fields made local field = (local < made) × (slice_get fields field ≡ Some Int)
 
 -- statements after so many locals were made
-abbrev pub AreSound : List Kind → ℕ → List SmallStmt → Type 0
-AreSound fields made [] = Unit {0}
-AreSound fields made (Make ∷ more) = (made < MOST_LOCALS) × AreSound fields (made + 1) more
-AreSound fields made (Put local field value ∷ more) = IsWithin fields made local field × AreSound fields made more
-AreSound fields made (Check local field value site ∷ more) = IsWithin fields made local field × AreSound fields made more
+abbrev pub AreSoundStatements : List Kind → ℕ → List SmallStmt → Type 0
+AreSoundStatements fields made [] = Unit {0}
+AreSoundStatements fields made (Make ∷ more) = (made < MOST_LOCALS) × AreSoundStatements fields (made + 1) more
+AreSoundStatements fields made (Put local field value ∷ more) = IsWithin fields made local field × AreSoundStatements fields made more
+AreSoundStatements fields made (Check local field value site ∷ more) = IsWithin fields made local field × AreSoundStatements fields made more
 
-pub record IsSound (program : SmallLists) : Type 0 where
+pub record IsSoundProgram (program : SmallLists) : Type 0 where
   pub few_fields : length program.fields ≤ MOST_FIELDS
   pub few_statements : length program.body ≤ MOST_STATEMENTS
-  pub body : AreSound program.fields 0 program.body
+  pub body : AreSoundStatements program.fields 0 program.body

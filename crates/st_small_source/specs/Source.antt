@@ -70,14 +70,14 @@ AreNumbered fields before (s ∷ ss) (n ∷ ns) = IsNumbered fields before s n �
 AreNumbered fields before statements numbers = ⊥
 
 -- the kind of a field; one of kind class has the number of the class
-abbrev pub kind_of : FieldKind → Kind
-kind_of int_kind = Int
-kind_of (class_kind class) = Ref NODE_CLASS
+abbrev pub kind_in_numbers : FieldKind → Kind
+kind_in_numbers int_kind = Int
+kind_in_numbers (class_kind class) = Ref NODE_CLASS
 
 -- a program with numbers for its names
 pub record HasNumbers (p : Program) (program : SmallLists) : Type 0 where
   pub thread : program.thread ≡ p.thread
-  pub fields : program.fields ≡ map (λ f. kind_of f.kind) p.fields
+  pub fields : program.fields ≡ map (λ f. kind_in_numbers f.kind) p.fields
   pub body : AreNumbered p.fields [] p.body program.body
 
 -- the tokens of the text spell a program that keeps the rules, and this is the program in numbers

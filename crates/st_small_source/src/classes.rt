@@ -3,7 +3,7 @@ ghost use Rattle.std.specs.Prelude.{◌≡◌, ◌<◌, ◌&&◌, length, map, I
 ghost use Rattle.std.specs.List.{list_any, list_all};
 ghost use Rattle.std.specs.Str.{bytes_eq};
 ghost use Rattle.st_small_source.specs.Numbering.{is_int, is_of_class, are_distinct, is_class_right};
-ghost use Rattle.st_small_source.specs.Source.{kind_of};
+ghost use Rattle.st_small_source.specs.Source.{kind_in_numbers};
 ghost use Rattle.st_small_source.specs.Views.{kind_view, field_view};
 
 use crate::limits::{MOST_FIELDS, NODE_CLASS};
@@ -73,7 +73,7 @@ pub(crate) fn is_class_right(class: &[u8], fields: &[FieldTree]) -> bool
 
 /// The kind of a field. One of kind class has the number of the class.
 fn kind_of(kind: KindTree) -> Kind
-    ensures { result ≡ kind_of (kind_view kind.entry) }
+    ensures { result ≡ kind_in_numbers (kind_view kind.entry) }
 {
     match kind {
         KindTree::Int => Kind::Int,
@@ -83,7 +83,7 @@ fn kind_of(kind: KindTree) -> Kind
 
 /// The kinds of the fields, in their order.
 pub(crate) fn kinds(alloc: Global, fields: &[FieldTree]) -> Result<Vec<Kind>, AllocError>
-    ensures { IfOk result (λ v. v.items ≡ map (λ f. kind_of (kind_view f.kind)) fields.now) }
+    ensures { IfOk result (λ v. v.items ≡ map (λ f. kind_in_numbers (kind_view f.kind)) fields.now) }
 {
     fields
         .iter()

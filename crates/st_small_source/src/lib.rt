@@ -3,11 +3,11 @@
 #![tactic(auto)]
 
 mod classes;
+mod errors;
 mod laws;
 mod limits;
 mod names;
 mod programs;
-mod refusals;
 mod sources;
 mod statements;
 mod symbols;
@@ -15,10 +15,10 @@ mod syntax;
 mod terminals;
 mod trees;
 
+pub use errors::SmallError;
 pub use laws::{numbers_within, one_program};
 pub use limits::{MOST_FIELDS, MOST_LOCALS, MOST_STATEMENTS, NODE_CLASS};
 pub use programs::{Small, SmallStmt};
-pub use refusals::SmallError;
 pub use sources::small;
 
 #[cfg(test)]

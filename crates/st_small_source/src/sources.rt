@@ -2,14 +2,14 @@
 ghost use Rattle.std.specs.Prelude.{◌≤◌, All, length, IfOk, IsErrOf};
 ghost use Rattle.st_lex.specs.declared.limits.TheConstants.{MOST_SOURCE_BYTES};
 ghost use Rattle.st_lex.specs.Tokens.{IsToken};
-ghost use Rattle.st_small_source.specs.Answers.{program_of};
-ghost use Rattle.st_small_source.specs.Reading.{Gives};
+ghost use Rattle.st_small_source.specs.Built.{program_of};
+ghost use Rattle.st_small_source.specs.Reading.{GivesAs};
 ghost use Rattle.st_small_source.specs.Small.{SmallLists};
 ghost use Rattle.st_small_source.specs.Source.{IsSmallSource};
 
+use crate::errors::SmallError;
 use crate::names::numbered_program;
 use crate::programs::Small;
-use crate::refusals::SmallError;
 use crate::symbols::symbols_of;
 use crate::syntax::program;
 use st_lex::{LexError, Token, tokens};
@@ -31,10 +31,10 @@ pub fn small(alloc: Global, text: &[u8]) -> Result<Small, SmallError>
 }
 
 /// The program that the tokens of the text spell.
-#[tactic(auto, unfolding(crate::specs::Answers::program_of))]
+#[tactic(auto, unfolding(crate::specs::Built::program_of))]
 fn build(alloc: Global, text: &[u8], tokens: &[Token]) -> Result<Small, SmallError>
     requires { All (IsToken text.now) tokens.now }
-    ensures { Gives (λ program. program) result (program_of text.now tokens.now) }
+    ensures { GivesAs (λ program. program) result (program_of text.now tokens.now) }
 {
     let symbols = symbols_of(alloc, text, tokens)?;
     let tree = program(alloc, &symbols)?;

@@ -1,15 +1,15 @@
 //! The statements in numbers: the rules on locals, and the place of each local and field that a statement names.
 ghost use Rattle.std.specs.Prelude.{◌≡◌, ◌<◌, ◌≤◌, [], ◌++◌, length, map, OnOk, IfSome, is_none, position};
 ghost use Rattle.std.specs.Str.{bytes_eq};
-ghost use Rattle.st_small_source.specs.Reading.{Gives};
+ghost use Rattle.st_small_source.specs.Reading.{GivesAs};
 ghost use Rattle.st_small_source.specs.Numbering.{place_of, place_numbers, is_make_right, numbered, numbered_body};
 ghost use Rattle.st_small_source.specs.Source.{made_by};
 ghost use Rattle.st_small_source.specs.Views.{field_view, statement_view, name_views};
 
 use crate::classes::int_field_place;
+use crate::errors::SmallError;
 use crate::limits::{MOST_FIELDS, MOST_LOCALS};
 use crate::programs::SmallStmt;
-use crate::refusals::SmallError;
 use crate::trees::{FieldTree, StmtTree};
 use std::alloc::{AllocError, Global};
 
@@ -115,7 +115,7 @@ pub(crate) fn numbered_body(
     body: &[StmtTree],
 ) -> Result<Vec<SmallStmt>, SmallError>
     requires { length fields.now ≤ MOST_FIELDS }
-    ensures { Gives (λ v. v.items) result (numbered_body class.now (map field_view fields.now) [] (map statement_view body.now)) }
+    ensures { GivesAs (λ v. v.items) result (numbered_body class.now (map field_view fields.now) [] (map statement_view body.now)) }
 {
     let mut numbers = Vec::new(alloc);
     let mut locals = Vec::new(alloc);

@@ -3,8 +3,8 @@ use Rattle.std.proofs.Common.{◌≡◌, ℕ, ◌≤◌, List, length, refl, sym
 use Rattle.st_lex.specs.declared.limits.TheConstants.{MOST_SOURCE_BYTES}
 use Rattle.st_small_source.specs.Small.{SmallLists}
 use Rattle.st_small_source.specs.Source.{IsSmallSource}
-use Rattle.st_small_source.specs.declared.refusals.SmallError.{SmallError}
-use Rattle.st_small_source.specs.declared.refusals.SmallError.TheVariants as errors
+use Rattle.st_small_source.specs.declared.errors.SmallError.{SmallError}
+use Rattle.st_small_source.specs.declared.errors.SmallError.TheVariants as errors
 use Rattle.st_top.specs.Causes.{IsBuildRefusal}
 use Rattle.st_top.specs.Refusals.{source_refusal}
 use Rattle.st_top.specs.declared.refusals.Refusal.{Refusal}

@@ -2,8 +2,8 @@
 use Rattle.std.specs.Prelude.{ℕ, List, codes}
 use Rattle.st_io.specs.declared.faults.FilesFault.{FilesFault}
 use Rattle.st_io.specs.declared.faults.FilesFault.TheVariants as files
-use Rattle.st_small_source.specs.declared.refusals.SmallError.{SmallError}
-use Rattle.st_small_source.specs.declared.refusals.SmallError.TheVariants as errors
+use Rattle.st_small_source.specs.declared.errors.SmallError.{SmallError}
+use Rattle.st_small_source.specs.declared.errors.SmallError.TheVariants as errors
 use Rattle.st_top.specs.declared.refusals.Refusal.{Refusal}
 use Rattle.st_top.specs.declared.refusals.Refusal.TheVariants.{Words, NoMemory, ReadFault, SourceTooLong, SourceNotBuilt}
 use Rattle.st_top.specs.declared.statuses.TheConstants.{STATUS_WORDS, STATUS_SOURCE, STATUS_READ_FAULT, STATUS_NO_MEMORY}

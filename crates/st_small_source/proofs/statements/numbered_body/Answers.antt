@@ -49,5 +49,6 @@ returns c =
     let front = c.loop-statement.numbers.items in
     let past : length c.args.body.now ≤ c.loop-statement.statement-index = c.loop-statement-test.false in
     sym c.loop-statement.invariant.so_far
-    ∙ ap (λ (ss : List Statement). with_numbers front (numbered_body class fields locals ss)) (ap (λ (l : List StmtTree). map statement_view l) (drop_all c.loop-statement.statement-index c.args.body.now past))
+    ∙ ap (λ (ss : List Statement). with_numbers front (numbered_body class fields locals ss))
+    (ap (λ (l : List StmtTree). map statement_view l) (drop_all c.loop-statement.statement-index c.args.body.now past))
     ∙ all_made class fields front locals

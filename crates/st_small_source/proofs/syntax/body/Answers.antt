@@ -27,7 +27,8 @@ loop-body-smaller c =
 pub loop-body-preserved : goal.loop-body-preserved
 loop-body-preserved c =
     rw c.in_ok-push.ensures.items
-    (Going-step statement_reader statement_view c.args.symbols.now c.loop-body.body.items c.loop-body.read c.in_ok-statement.statement c.in_ok-statement.after.now c.loop-body.invariant (sym c.closes.ensures ∙ c.loop-body-test.true)
+    (Going-step statement_reader statement_view c.args.symbols.now c.loop-body.body.items c.loop-body.read c.in_ok-statement.statement
+    c.in_ok-statement.after.now c.loop-body.invariant (sym c.closes.ensures ∙ c.loop-body-test.true)
     (reads_some (λ x. (statement_view x.0, terminals x.1.now)) c.statement.result _ _ c.statement.ensures c.in_ok-statement.ensures.ok_part))
 
 pub returns : goal.returns

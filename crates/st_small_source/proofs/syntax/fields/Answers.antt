@@ -27,7 +27,8 @@ loop-fields-smaller c =
 pub loop-fields-preserved : goal.loop-fields-preserved
 loop-fields-preserved c =
     rw c.in_ok-push.ensures.items
-    (Going-step field_reader field_view c.args.symbols.now c.loop-fields.fields.items c.loop-fields.read c.in_ok-field.field c.in_ok-field.after.now c.loop-fields.invariant (sym c.closes.ensures ∙ c.loop-fields-test.true)
+    (Going-step field_reader field_view c.args.symbols.now c.loop-fields.fields.items c.loop-fields.read c.in_ok-field.field
+    c.in_ok-field.after.now c.loop-fields.invariant (sym c.closes.ensures ∙ c.loop-fields-test.true)
     (reads_some (λ x. (field_view x.0, terminals x.1.now)) c.field.result _ _ c.field.ensures c.in_ok-field.ensures.ok_part))
 
 pub returns : goal.returns

@@ -100,19 +100,19 @@ reply_of (Launch m site number args) = 0
 reply_of (Retire m number) = 0
 
 -- the event answers what the thread does next
-abbrev pub Answers : Event → Turn → Type 0
-Answers (New m obj class) turn = turn ≡ asks (make class)
-Answers (Load m obj field value) turn = turn ≡ asks (load obj field)
-Answers (Store m obj field value) turn = turn ≡ asks (store obj field value)
-Answers (Cas m obj field expect value done) turn = turn ≡ asks (cas obj field expect value)
-Answers (Launch m site number args) turn = turn ≡ asks (launch site args)
-Answers (Retire m number) turn = ⊥
+abbrev pub IsAnswerTo : Event → Turn → Type 0
+IsAnswerTo (New m obj class) turn = turn ≡ asks (make class)
+IsAnswerTo (Load m obj field value) turn = turn ≡ asks (load obj field)
+IsAnswerTo (Store m obj field value) turn = turn ≡ asks (store obj field value)
+IsAnswerTo (Cas m obj field expect value done) turn = turn ≡ asks (cas obj field expect value)
+IsAnswerTo (Launch m site number args) turn = turn ≡ asks (launch site args)
+IsAnswerTo (Retire m number) turn = ⊥
 
 -- after these replies, each event answers the request of the code, and the code ends so after the last
 abbrev pub FollowsAfter : SmallLists → Sizes → ℕ → List ℕ → List Event → End → Type 0
 FollowsAfter program sizes thread replies [] end = next_request program sizes thread replies ≡ ends end
 FollowsAfter program sizes thread replies (e ∷ es) end =
-    Answers e (next_request program sizes thread replies) × FollowsAfter program sizes thread (replies ++ reply_of e ∷ []) es end
+    IsAnswerTo e (next_request program sizes thread replies) × FollowsAfter program sizes thread (replies ++ reply_of e ∷ []) es end
 
 -- the events follow the thread's code from its beginning to this end
 unfoldable pub Follows : SmallLists → Sizes → ℕ → List Event → End → Type 0

@@ -1,6 +1,6 @@
 //! Why a text gives no small program.
 ghost use Rattle.std.specs.Prelude.{◌≡◌};
-ghost use Rattle.st_small_source.specs.declared.refusals.SmallError.TheVariants.{Memory};
+ghost use Rattle.st_small_source.specs.declared.errors.SmallError.TheVariants.{Memory};
 
 use std::alloc::{AllocError, AllocFailed};
 use thiserror::Error;
