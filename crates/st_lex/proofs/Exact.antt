@@ -5,9 +5,9 @@ use Rattle.std.specs.Prelude.{Result, Ok, Err, Option, Some, None, slice_index, 
 use Rattle.std.specs.List.{AllByRecursion}
 use Rattle.std.proofs.lemmas.Bool.{true≢false, cases_lt, cases_order}
 use Rattle.std.proofs.lemmas.List.{length-drop, drop_more}
-use Rattle.st_lex.specs.Types.{Site, Token, TokenKind, Fault, Piece, LARGEST_NUMBER}
-use Rattle.st_lex.specs.Types.fault
-use Rattle.st_lex.specs.Types.piece
+use Rattle.st_lex.specs.Terms.{Site, Token, TokenKind, Fault, Piece, LARGEST_NUMBER}
+use Rattle.st_lex.specs.Terms.fault
+use Rattle.st_lex.specs.Terms.piece
 use Rattle.st_lex.specs.Bytes.{is_newline, is_blank}
 use Rattle.st_lex.specs.Places.{place_at}
 use Rattle.st_lex.specs.Spellings.{is_number, is_spelling, decimal, HasForm}

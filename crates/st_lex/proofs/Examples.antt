@@ -3,8 +3,8 @@
 use Rattle.std.proofs.Common.{◌≡◌, [], ◌∷◌, length, refl, pos}
 use Rattle.std.specs.Prelude.{Ok, Err, codes}
 use Rattle.st_lex.specs.declared.words.TheConstants.{KEYWORDS, SINGLE_MARKS, DOUBLE_MARKS}
-use Rattle.st_lex.specs.Types.{Word, Key, Number, LARGEST_NUMBER, MOST_SOURCE_BYTES}
-use Rattle.st_lex.specs.Types.fault
+use Rattle.st_lex.specs.Terms.{Word, Key, Number, LARGEST_NUMBER, MOST_SOURCE_BYTES}
+use Rattle.st_lex.specs.Terms.fault
 use Rattle.st_lex.specs.Reading.{front_piece, token_piece, read_tokens}
 use Rattle.st_lex.specs.Places.{line_at, column_at}
 use Rattle.st_lex.specs.Spellings.{is_keyword, is_single_mark, is_double_mark}

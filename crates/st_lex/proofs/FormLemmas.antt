@@ -3,7 +3,7 @@ use Rattle.std.proofs.Common.{◌≡◌, ℕ, ◌<◌, Bool, true, false, ◌&&�
 use Rattle.std.specs.List.{list_all}
 use Rattle.std.proofs.lemmas.Bool.{true≢false, false≢true, and_parts}
 use Rattle.std.proofs.lemmas.Bool.Decides.{nat_tests}
-use Rattle.st_lex.specs.Types.{TokenKind, Word, Key, Number, Mark, LARGEST_NUMBER}
+use Rattle.st_lex.specs.Terms.{TokenKind, Word, Key, Number, Mark, LARGEST_NUMBER}
 use Rattle.st_lex.specs.Bytes.{is_blank, is_letter, is_digit, is_name_byte}
 use Rattle.st_lex.specs.Spellings.{is_name, is_keyword, is_number, decimal, is_mark, is_spelling, HasForm}
 use Rattle.st_lex.proofs.Runs.{false_where_not_true}

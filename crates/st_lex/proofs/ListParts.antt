@@ -1,7 +1,7 @@
 -- The parts of a list of tokens.
 use Rattle.std.proofs.Common.{ℕ, List, [], ◌∷◌, ◌++◌, length}
 use Rattle.std.specs.List.{AllByRecursion}
-use Rattle.st_lex.specs.Types.{Token}
+use Rattle.st_lex.specs.Terms.{Token}
 use Rattle.st_lex.specs.Tokens.{IsGap, IsToken, AreTokensApart, IsTokensOf}
 
 each_from : (text : List ℕ) (front back : List Token) (token : Token) → AllByRecursion (IsToken text) (front ++ token ∷ back)

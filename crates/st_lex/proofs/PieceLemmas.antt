@@ -7,10 +7,10 @@ use Rattle.std.proofs.lemmas.Bool.{true≢false, and_parts, and_from, leb-true, 
 use Rattle.std.proofs.lemmas.Bool.Decides.{nat_tests}
 use Rattle.std.proofs.lemmas.List.Sums.{prefix_len-le-length}
 use Rattle.std.proofs.lemmas.List.Folds.{length-prefix_len}
-use Rattle.st_lex.specs.Types.{TokenKind, Fault, Piece, LARGEST_NUMBER}
-use Rattle.st_lex.specs.Types.fault
-use Rattle.st_lex.specs.Types.kind
-use Rattle.st_lex.specs.Types.piece
+use Rattle.st_lex.specs.Terms.{TokenKind, Fault, Piece, LARGEST_NUMBER}
+use Rattle.st_lex.specs.Terms.fault
+use Rattle.st_lex.specs.Terms.kind
+use Rattle.st_lex.specs.Terms.piece
 use Rattle.st_lex.specs.Bytes.{is_newline, is_blank, is_letter, is_digit, is_name_byte, is_comment_byte, opens_comment}
 use Rattle.st_lex.specs.Spellings.{is_name, is_keyword, is_number, decimal, is_single_mark, is_double_mark, is_mark, is_spelling, HasForm}
 use Rattle.st_lex.specs.Reading.{front_piece, token_piece, word_piece, number_piece, mark_piece}

@@ -1,9 +1,9 @@
 -- What the call answers, in the words of the definition of tokens.
 use Rattle.std.proofs.Common.{ℕ, List, subst}
 use Rattle.std.specs.Prelude.{Result, Ok, Err, IfOk, IsErrOf}
-use Rattle.st_lex.specs.Types.{Site, Token, LexError}
-use Rattle.st_lex.specs.Types.error
-use Rattle.st_lex.specs.Types.fault
+use Rattle.st_lex.specs.Terms.{Site, Token, LexError}
+use Rattle.st_lex.specs.Terms.error
+use Rattle.st_lex.specs.Terms.fault
 use Rattle.st_lex.specs.Errors.{StopsAt}
 use Rattle.st_lex.specs.Reading.{GivesRead, read_tokens}
 use Rattle.st_lex.specs.Tokens.{IsTokensOf}

@@ -3,8 +3,8 @@ use Rattle.std.proofs.Common.{◌≡◌, ℕ, zero, suc, ◌+◌, ◌-◌, ◌<�
 use Rattle.std.proofs.Common.{length, drop, get_or, refl, ap, sym, ◌∙◌, subst, arith, append_assoc}
 use Rattle.std.specs.Prelude.{Result, Ok, Err}
 use Rattle.std.proofs.lemmas.List.{drop_more, drop_all, drop-drop}
-use Rattle.st_lex.specs.Types.{Token, Piece}
-use Rattle.st_lex.specs.Types.piece
+use Rattle.st_lex.specs.Terms.{Token, Piece}
+use Rattle.st_lex.specs.Terms.piece
 use Rattle.st_lex.specs.Reading.{Stop, front_piece, token_at, with_first, reads_on, read_rest, read_tokens}
 use Rattle.st_lex.proofs.PieceLemmas.{Means, front_means}
 

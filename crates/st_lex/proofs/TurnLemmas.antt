@@ -3,9 +3,9 @@ use Rattle.std.proofs.Common.{◌++◌, ◌∷◌, ◌≡◌, ℕ, ◌+◌, ◌-
 use Rattle.std.proofs.Common.{append-nil, length, take, drop, get_or, refl, ap, sym, ◌∙◌, subst, arith}
 use Rattle.std.specs.Prelude.{Result, Ok, Err, slice_index}
 use Rattle.std.proofs.lemmas.List.{length-drop, take_rest}
-use Rattle.st_lex.specs.Types.{Site, Token, TokenKind, Fault, Piece}
-use Rattle.st_lex.specs.Types.fault
-use Rattle.st_lex.specs.Types.piece
+use Rattle.st_lex.specs.Terms.{Site, Token, TokenKind, Fault, Piece}
+use Rattle.st_lex.specs.Terms.fault
+use Rattle.st_lex.specs.Terms.piece
 use Rattle.st_lex.specs.declared.cursors.Cursor.{Cursor}
 use Rattle.st_lex.specs.Bytes.{is_newline}
 use Rattle.st_lex.specs.Places.{line_at, column_at, place_at}

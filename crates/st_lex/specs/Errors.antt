@@ -1,8 +1,8 @@
 -- What an error of `tokens` tells.
 use Rattle.std.specs.Prelude.{◌≡◌, ℕ, List}
-use Rattle.st_lex.specs.Types.{Site, Fault, LexError}
-use Rattle.st_lex.specs.Types.error
-use Rattle.st_lex.specs.Types.fault
+use Rattle.st_lex.specs.Terms.{Site, Fault, LexError}
+use Rattle.st_lex.specs.Terms.error
+use Rattle.st_lex.specs.Terms.fault
 use Rattle.st_lex.specs.Places.{place_at}
 use Rattle.st_lex.specs.Tokens.{IsFaultOf}
 

@@ -3,5 +3,5 @@ pub mod Errors
 pub mod Places
 pub mod Reading
 pub mod Spellings
+pub mod Terms
 pub mod Tokens
-pub mod Types

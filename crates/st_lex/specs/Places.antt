@@ -1,7 +1,7 @@
 -- The place of an offset in a text: its line and its column, both from 1, columns in bytes.
 use Rattle.std.specs.Prelude.{ℕ, ◌+◌, List, length, take, count_by}
 use Rattle.std.specs.List.{after_last}
-use Rattle.st_lex.specs.Types.{Site}
+use Rattle.st_lex.specs.Terms.{Site}
 use Rattle.st_lex.specs.Bytes.{is_newline}
 
 -- one more than the newlines before the offset

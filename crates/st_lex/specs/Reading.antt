@@ -1,11 +1,11 @@
 -- Reading a text from the front, piece by piece. `proofs/Exact.antt` shows that this reads what `Tokens` defines.
 use Rattle.std.specs.Prelude.{◌≡◌, ℕ, zero, suc, ◌+◌, ◌-◌, if◌then◌else◌, nat_le, List, [], ◌∷◌, length, take, slice_index, pos, Result, Ok, Err}
 use Rattle.std.specs.List.{prefix_len}
-use Rattle.st_lex.specs.Types.{Token, TokenKind, Fault, LexError, Piece, LARGEST_NUMBER}
-use Rattle.st_lex.specs.Types.error
-use Rattle.st_lex.specs.Types.fault
-use Rattle.st_lex.specs.Types.kind
-use Rattle.st_lex.specs.Types.piece
+use Rattle.st_lex.specs.Terms.{Token, TokenKind, Fault, LexError, Piece, LARGEST_NUMBER}
+use Rattle.st_lex.specs.Terms.error
+use Rattle.st_lex.specs.Terms.fault
+use Rattle.st_lex.specs.Terms.kind
+use Rattle.st_lex.specs.Terms.piece
 use Rattle.st_lex.specs.Bytes.{is_newline, is_blank, is_letter, is_digit, is_name_byte, is_comment_byte, opens_comment}
 use Rattle.st_lex.specs.Places.{place_at}
 use Rattle.st_lex.specs.Spellings.{is_keyword, decimal, is_single_mark, is_double_mark}

@@ -2,7 +2,7 @@
 use Rattle.std.specs.Prelude.{◌≡◌, ℕ, ◌+◌, ◌-◌, ◌*◌, ◌≤◌, Bool, false, IsTrue, IsFalse, ◌&&◌, ◌||◌, ◌==◌, List, [], ◌∷◌, fold, pos}
 use Rattle.std.specs.List.{list_any, list_all}
 use Rattle.std.specs.Str.{bytes_eq}
-use Rattle.st_lex.specs.Types.{TokenKind, Word, Key, Number, Mark, LARGEST_NUMBER}
+use Rattle.st_lex.specs.Terms.{TokenKind, Word, Key, Number, Mark, LARGEST_NUMBER}
 use Rattle.st_lex.specs.declared.words.TheConstants.{KEYWORDS, SINGLE_MARKS, DOUBLE_MARKS}
 use Rattle.st_lex.specs.Bytes.{is_letter, is_digit, is_name_byte}
 

@@ -1,8 +1,8 @@
 -- The tokens of a text, and the first fault of one. An offset is the number of bytes before it, and a gap is what stands between tokens.
 use Rattle.std.specs.Prelude.{◌≡◌, ℕ, ◌<◌, ◌≤◌, IsTrue, IsFalse, ◌⊎◌, List, [], ◌∷◌, length, drop, slice_index, slice_range}
 use Rattle.std.specs.List.{AllByRecursion}
-use Rattle.st_lex.specs.Types.{Token, Fault, LARGEST_NUMBER}
-use Rattle.st_lex.specs.Types.fault
+use Rattle.st_lex.specs.Terms.{Token, Fault, LARGEST_NUMBER}
+use Rattle.st_lex.specs.Terms.fault
 use Rattle.st_lex.specs.Bytes.{is_newline, is_blank, opens_comment}
 use Rattle.st_lex.specs.Places.{place_at}
 use Rattle.st_lex.specs.Spellings.{is_number, is_spelling, decimal, HasForm}

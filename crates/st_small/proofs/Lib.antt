@@ -2,7 +2,7 @@ mod Examples
 mod LegalLemmas
 mod LocalLemmas
 mod MachineLemmas
-mod RequestsLemmas
+mod CodeLemmas
 mod RunLemmas
 pub mod SourceLemmas
 mod VerdictLemmas

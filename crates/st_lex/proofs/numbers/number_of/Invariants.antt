@@ -1,6 +1,6 @@
 -- the digits that are left complete the value so far
 use Rattle.std.proofs.Common.{◌≡◌, ◌+◌, ◌-◌, ◌*◌, ◌≤◌, drop, fold}
-use Rattle.st_lex.specs.Types.{LARGEST_NUMBER}
+use Rattle.st_lex.specs.Terms.{LARGEST_NUMBER}
 use Rattle.st_lex.specs.Spellings.{decimal}
 use Rattle.st_lex.proofs.numbers.number_of.Given as goal
 
