@@ -4,6 +4,7 @@ use Rattle.std.specs.Option.{option_flatten, option_map}
 use Rattle.std.specs.Prelude.{slice_set}
 use Rattle.std.proofs.lemmas.List.{map-set, length-map, get_or-map}
 use Rattle.std.proofs.lemmas.Option.{slice_get-get_or}
+use Rattle.st_events.specs.declared.heaps.TheConstants.{SHARED_OBJECT}
 use Rattle.st_events.specs.declared.heaps.Cell.{Cell}
 use Rattle.st_events.specs.Terms.{ShapeLists, Object, heap_of, with_object, with_word, set_word, fresh, first_heap}
 use Rattle.st_events.specs.HeapCell.{object_of, object_with}
@@ -58,10 +59,10 @@ pub first_cells :
     (shape : ShapeLists) (cells : List Cell) (n : ℕ) (nothing cell : Cell)
     → cells ≡ replicate n nothing
     → object_of nothing ≡ absent
-    → 1 < n
+    → SHARED_OBJECT < n
     → object_of cell ≡ Some (fresh shape 0)
-    → heap_of (map object_of (slice_set cells 1 cell)) ≡ first_heap shape
+    → heap_of (map object_of (slice_set cells SHARED_OBJECT cell)) ≡ first_heap shape
 first_cells shape cells n nothing cell is none h e =
-    ap heap_of (map-set object_of cells 1 cell ∙ ap (λ (y : Option Object). slice_set (map object_of cells) 1 y) e
-    ∙ ap (λ (objects : List (Option Object)). slice_set objects 1 (Some (fresh shape 0)))
+    ap heap_of (map-set object_of cells SHARED_OBJECT cell ∙ ap (λ (y : Option Object). slice_set (map object_of cells) SHARED_OBJECT y) e
+    ∙ ap (λ (objects : List (Option Object)). slice_set objects SHARED_OBJECT (Some (fresh shape 0)))
     (ap (map object_of) is ∙ map_of_replicate object_of n nothing ∙ ap (replicate n) none)) ∙ heap_of_first shape n h

@@ -9,6 +9,7 @@ use Rattle.std.proofs.lemmas.List.{take-replicate, length-replicate}
 use Rattle.std.proofs.lemmas.Bool.Decides.{eqb_tells}
 use mathlib.Core.Path.{fun_ext}
 use lib.Dec.{eqb-zero-suc, eqb-suc-zero, eqb-suc-suc}
+use Rattle.st_events.specs.declared.heaps.TheConstants.{SHARED_OBJECT}
 use Rattle.st_events.specs.Terms.{Kind, ShapeLists, IsWithinLimits, kinds_of, Object, Heap, heap_of, with_object, with_word, set_word, fresh, first_heap}
 use Rattle.st_events.specs.Terms.{word_at, word_of}
 use Rattle.st_events.specs.declared.shapes.TheConstants.{MOST_FIELDS}
@@ -72,11 +73,11 @@ heap_of_nothing (suc n) (suc o) = heap_of_nothing n o
 -- the shared object alone
 pub heap_of_first :
     (shape : ShapeLists) (n : ℕ)
-    → 1 < n
-    → heap_of (slice_set (replicate n absent) 1 (Some (fresh shape 0))) ≡ first_heap shape
+    → SHARED_OBJECT < n
+    → heap_of (slice_set (replicate n absent) SHARED_OBJECT (Some (fresh shape 0))) ≡ first_heap shape
 heap_of_first shape n h =
-    fun_ext (λ o. heap_of_one_set (replicate n absent) 1 (Some (fresh shape 0)) (omega (arith, length-replicate n absent)) o
-    ∙ ap (λ (x : Option Object). cond (o == 1) (Some (fresh shape 0)) x) (heap_of_nothing n o))
+    fun_ext (λ o. heap_of_one_set (replicate n absent) SHARED_OBJECT (Some (fresh shape 0)) (omega (arith, length-replicate n absent)) o
+    ∙ ap (λ (x : Option Object). cond (o == SHARED_OBJECT) (Some (fresh shape 0)) x) (heap_of_nothing n o))
 
 -- every place of such a list
 pub map_of_replicate : {A B : Type 0} (f : A → B) (n : ℕ) (x : A) → map f (replicate n x) ≡ replicate n (f x)

@@ -105,6 +105,9 @@ done = refl
 first_of_second : reason_after [] (New 1 4 1) ≡ None
 first_of_second = refl
 
+first_of_second_later : reason_after two_objects (New 1 4 1) ≡ None
+first_of_second_later = refl
+
 second_of_second : reason_after [] (New 1 5 1) ≡ Some WrongObject
 second_of_second = refl
 

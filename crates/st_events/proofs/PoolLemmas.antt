@@ -6,6 +6,7 @@ use Rattle.std.specs.Prelude.{nat_lt}
 use Rattle.std.proofs.Math.Nat.{mul-le-mul_right}
 use Rattle.std.proofs.lemmas.Bool.{le-leb}
 use Rattle.std.proofs.lemmas.Bool.Decides.{eqb_tells}
+use Rattle.st_events.specs.declared.heaps.TheConstants.{SHARED_OBJECT}
 use Rattle.st_events.specs.Terms.{Event, New, Load, Store, Cas, Launch, Retire, Sizes, ShapeLists, IsWithinLimits, Object, fresh, first_heap, World, next}
 use Rattle.st_events.specs.Terms.{world_from, first_world, at, changed, is_among, needing_in, IsLegal, IsLegalFrom, lost_pairs, objects_of}
 use Rattle.st_events.specs.World.{is_full, row_if_needed, lost_at_change}
@@ -28,11 +29,11 @@ record AreSpread (w : World) (objs : List ℕ) : Type 0 where
 -- ---- kept by each event
 
 -- before the first event
-first_is_spread : (shape : ShapeLists) → AreSpread (first_world shape) (1 ∷ [])
+first_is_spread : (shape : ShapeLists) → AreSpread (first_world shape) (SHARED_OBJECT ∷ [])
 first_is_spread shape = record { objects = λ obj some. shared obj some; checks = tt; few = λ n. omega arith }
   where
-    shared : (obj : ℕ) → IsSome (first_heap shape obj) → is_among (1 ∷ []) obj ≡ true
-    shared obj some = elim (eqb_tells obj 1) [
+    shared : (obj : ℕ) → IsSome (first_heap shape obj) → is_among (SHARED_OBJECT ∷ []) obj ≡ true
+    shared obj some = elim (eqb_tells obj SHARED_OBJECT) [
       | inl e ↦ rw e.1 refl
       | inr e ↦ (let f : is_some (cond false (Some (fresh shape 0)) None) ≡ true = subst (λ (b : Bool). IsSome (cond b (Some (fresh shape 0)) None)) e.0 some in cc)
     ]
@@ -197,4 +198,4 @@ pub large_pool_loses_nothing :
     → lost_pairs shape sizes es ≡ []
 unfolding IsLegal
 large_pool_loses_nothing shape sizes limits es l large =
-    events_lose_none shape sizes (first_world shape) (1 ∷ []) es (first_is_sound shape sizes limits) (first_is_spread shape) l (omega (arith, large)) refl
+    events_lose_none shape sizes (first_world shape) (SHARED_OBJECT ∷ []) es (first_is_sound shape sizes limits) (first_is_spread shape) l (omega (arith, large)) refl

@@ -2,6 +2,7 @@
 use Rattle.std.proofs.Common.{◌≡◌, ℕ, length, ◌≤◌, ◌==◌, cond, Bool, true, false, inl, inr, List, Some, None, refl, sym, ◌∙◌, ap, arith}
 use Rattle.std.proofs.lemmas.Bool.Decides.{eqb_tells}
 use Rattle.std.proofs.lemmas.List.Elements.{All-nil}
+use Rattle.st_events.specs.declared.heaps.TheConstants.{SHARED_OBJECT}
 use Rattle.st_events.specs.Terms.{Event, New, Load, Store, Cas, Launch, Retire, Sizes, ShapeLists, IsWithinLimits, Object, fresh, first_heap, World, Row, next}
 use Rattle.st_events.specs.Terms.{first_world, world_after, changed, IsLegalNext, IsLegal, LegalStore}
 use Rattle.st_events.specs.Sound.{IsSoundWorld}
@@ -18,7 +19,7 @@ use Rattle.st_events.proofs.SoundCopies.{new_keeps_versions, change_keeps_versio
 pub first_is_sound : (shape : ShapeLists) (sizes : Sizes) → IsWithinLimits shape → IsSoundWorld shape sizes (first_world shape)
 first_is_sound shape sizes limits = record {
   typed = first_is_typed shape limits;
-  regions = record { room = λ m. omega arith; objects = λ obj x h. elim (eqb_tells obj 1) [ inl e ↦ inl e.1 | inr e ↦ absurd (nothing obj x e.0 h) ] };
+  regions = record { room = λ m. omega arith; objects = λ obj x h. elim (eqb_tells obj SHARED_OBJECT) [ inl e ↦ inl e.1 | inr e ↦ absurd (nothing obj x e.0 h) ] };
   launches = record { launched = λ n low high. absurd (omega arith); only = λ n l h. cc };
   active = record { lanes = omega arith; rising = tt; launched = λ n h. cc };
   stamps = record { epoch = λ obj. omega arith; unmade = λ obj h. refl };
@@ -28,7 +29,7 @@ first_is_sound shape sizes limits = record {
   fitting = record { each = λ n l h. cc };
 }
   where
-    nothing : (obj : ℕ) (x : Object) → (obj == 1) ≡ false → first_heap shape obj ≡ Some x → ⊥
+    nothing : (obj : ℕ) (x : Object) → (obj == SHARED_OBJECT) ≡ false → first_heap shape obj ≡ Some x → ⊥
     nothing obj x e h = let f : None ≡ Some x = sym (ap (λ (b : Bool). cond b (Some (fresh shape 0)) None) e) ∙ h in cc
 
 -- one change

@@ -7,6 +7,7 @@ use Rattle.std.specs.Option.{option_map}
 use Rattle.std.proofs.lemmas.List.{length-map, length-set}
 use Rattle.std.proofs.lemmas.Bool.Decides.{eqb_tells}
 use Rattle.std.proofs.lemmas.Option.{slice_get_within}
+use Rattle.st_events.specs.declared.heaps.TheConstants.{SHARED_OBJECT}
 use Rattle.st_events.specs.Terms.{Kind, ShapeLists, kinds_of, IsWithinLimits, Heap, Object, class_at, word_at, word_of, with_object, with_word, set_word, fresh}
 use Rattle.st_events.specs.Terms.{first_heap, fits_cell}
 use Rattle.st_events.specs.declared.shapes.Kind.TheVariants.{Int, Bool as Truth, Ref}
@@ -147,7 +148,13 @@ pub new_keeps_typed :
     → IsTypedHeap shape (with_object heap obj (fresh shape class))
 new_keeps_typed shape heap obj class absent declared t =
     let objects = new_is_typed shape heap obj class absent declared (record { declared = t.declared; lengths = t.lengths; kinds = t.kinds }) in
-    record { shared = (new_keeps_classes heap obj (fresh shape class) absent).kept 1 0 t.shared; declared = objects.declared; lengths = objects.lengths; kinds = objects.kinds }
+    record {
+      shared = (new_keeps_classes heap obj (fresh shape class) absent).kept SHARED_OBJECT 0 t.shared;
+      declared = objects.declared;
+      lengths = objects.lengths;
+      kinds =
+          objects.kinds;
+    }
 
 -- no object at all
 nowhere : Heap
@@ -157,7 +164,8 @@ nowhere = λ o. None
 pub first_is_typed : (shape : ShapeLists) → IsWithinLimits shape → IsTypedHeap shape (first_heap shape)
 unfolding nowhere
 first_is_typed shape limits =
-    let objects = new_is_typed shape nowhere 1 0 refl limits.some_class (record { declared = λ obj class h. cc; lengths = λ obj x h. cc; kinds = λ obj field word h. cc }) in
+    let objects = new_is_typed shape nowhere SHARED_OBJECT 0 refl limits.some_class
+    (record { declared = λ obj class h. cc; lengths = λ obj x h. cc; kinds = λ obj field word h. cc }) in
     record { shared = refl; declared = objects.declared; lengths = objects.lengths; kinds = objects.kinds }
 
 -- ---- a change
@@ -218,7 +226,7 @@ change_keeps_typed shape heap obj field value fits t =
     let later = with_word heap obj field value in
     let kept = change_keeps_classes heap obj field value in
     record {
-      shared = kept.kept 1 0 t.shared;
+      shared = kept.kept SHARED_OBJECT 0 t.shared;
       declared = λ o c e. t.declared o c (sym (word_set_keeps_class heap obj field value o) ∙ e);
       lengths = λ o x e. elim (eqb_tells o obj) [
         | inl same ↦ lengths_here o x (heap o) refl (sym (rw same.0 refl) ∙ e)

@@ -2,6 +2,7 @@
 use Rattle.std.proofs.Common.{◌≡◌, ℕ, cond, Bool, true, false, List, [], ◌∷◌, All, Option, Some, None, refl, inl, inr, sym, ◌∙◌, ap, subst, arith}
 use Rattle.std.proofs.lemmas.Bool.Decides.{eqb_tells}
 use Rattle.std.proofs.lemmas.List.Elements.{All-head, All-tail}
+use Rattle.st_events.specs.declared.heaps.TheConstants.{SHARED_OBJECT}
 use Rattle.st_events.specs.Terms.{Args, Event, New, Load, Store, Cas, Launch, Retire, Sizes, ShapeLists, kinds_of, Heap, Object, word_of, with_object}
 use Rattle.st_events.specs.Terms.{with_word, fresh, first_heap, World, Launched, next, first_world, world_from, world_after}
 use Rattle.st_events.specs.Words.{IsWord, BringsWords, HoldsWords, IsLaunchOfWords}
@@ -42,7 +43,7 @@ changed_holds_words heap obj field value v h o place word e = elim (eqb_tells o 
 
 -- the first heap does
 first_holds_words : (shape : ShapeLists) → HoldsWords (first_heap shape)
-first_holds_words shape o field word e = elim (eqb_tells o 1) [
+first_holds_words shape o field word e = elim (eqb_tells o SHARED_OBJECT) [
   | inl same ↦ fresh_holds_words shape 0 field word (subst (λ (x : Option Object). word_of x field ≡ Some word) (ap (λ (b : Bool). cond b (Some (fresh shape 0)) None) same.0) e)
   | inr other ↦ absurd (none (subst (λ (x : Option Object). word_of x field ≡ Some word) (ap (λ (b : Bool). cond b (Some (fresh shape 0)) None) other.0) e))
 ]
