@@ -75,7 +75,7 @@ equal_store_keeps = refl
 equal_store_stamps : stamp_of shape (sizes 4) (launch 1 ∷ Store 0 1 0 0 ∷ []) 1 ≡ 1
 equal_store_stamps = refl
 
--- a Retire is at one place, of one thread; a check is then launched, and not active
+-- a Retire takes its check out of the active ones; its Launch stays
 retired_by_main : active_checks shape (sizes 4) (launch 1 ∷ Retire 1 1 ∷ []) ≡ []
 retired_by_main = refl
 

@@ -1,4 +1,4 @@
--- The events that launch checks: what is known of a check comes from its Launch, and that stands at one place
+-- The events that launch checks: what is known of a check comes from its Launch, and that stands at one ticket
 use Rattle.std.proofs.Common.{◌≡◌, ℕ, ◌+◌, ◌≤◌, ◌⊎◌, true, false, inl, inr, List, [], ◌∷◌, ◌++◌, Some, refl, sym, ◌∙◌, ap, subst, arith}
 use Rattle.std.proofs.lemmas.List.{append_assoc}
 use Rattle.std.proofs.lemmas.Bool.Decides.{eqb_tells}
@@ -89,7 +89,7 @@ launch_is_known shape sizes limits es fs m n site args l =
     at_once : (world_after shape sizes (es ++ Launch m site n args ∷ [])).launched n ≡ Some launch
     at_once = ap (λ (w : World). w.launched n) (world_after_one_more shape sizes es (Launch m site n args)) ∙ at_same n (Some launch) (world_after shape sizes es).launched
 
--- ---- one place
+-- ---- one ticket
 
 -- launches are only counted up
 epoch_does_not_fall : (shape : ShapeLists) (sizes : Sizes) (w : World) (e : Event) → w.epoch ≤ (next shape sizes w e).epoch
@@ -143,11 +143,11 @@ one_launch_from shape sizes w (d ∷ es) fs (g ∷ gs) hs n m site m' site' args
     let same = one_launch_from shape sizes (next shape sizes w d) es fs gs hs n m site m' site' args args' l.1 (tail_of e) in
     ap (λ (c : Event). c ∷ es) (head_of e) ∙ ap (λ (cs : List Event). g ∷ cs) same
 
--- each number is launched at one place
-pub launched_at_one_place :
+-- each number is launched at one ticket
+pub launched_at_one_ticket :
     (shape : ShapeLists) (sizes : Sizes) (es fs gs hs : List Event) (n m site m' site' : ℕ) (args args' : Args)
     → IsLegal shape sizes (es ++ Launch m site n args ∷ fs)
     → es ++ Launch m site n args ∷ fs ≡ gs ++ Launch m' site' n args' ∷ hs
     → es ≡ gs
 unfolding IsLegal
-launched_at_one_place shape sizes es fs gs hs n m site m' site' args args' l e = one_launch_from shape sizes (first_world shape) es fs gs hs n m site m' site' args args' l e
+launched_at_one_ticket shape sizes es fs gs hs n m site m' site' args args' l e = one_launch_from shape sizes (first_world shape) es fs gs hs n m site m' site' args args' l e

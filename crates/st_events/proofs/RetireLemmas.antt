@@ -1,4 +1,4 @@
--- The events that retire checks: what was launched is active or retired, and a check is retired at one place
+-- The events that retire checks: what was launched is active or retired, and a check is retired at one ticket
 use Rattle.std.proofs.Common.{◌≡◌, ℕ, ◌≤◌, ◌==◌, Bool, true, false, ◌⊎◌, inl, inr, List, [], ◌∷◌, ◌++◌, Some, refl, sym, ◌∙◌, ap, subst, arith}
 use Rattle.std.proofs.lemmas.List.{append_assoc}
 use Rattle.std.proofs.lemmas.Bool.Decides.{eqb_tells}
@@ -165,7 +165,7 @@ retired_is_launched shape sizes limits es n thread l r =
           (launch_stays shape sizes limits r.before (Retire thread n ∷ r.rest) n was.0 legal was.1),
     )
 
--- ---- one place
+-- ---- one ticket
 
 -- a list is taken apart in one way
 head_of : {e d : Event} {es ds : List Event} → e ∷ es ≡ d ∷ ds → e ≡ d
@@ -218,13 +218,13 @@ one_retire_from shape sizes w (d ∷ es) fs (g ∷ gs) hs n thread thread' s l e
     let same = one_retire_from shape sizes (next shape sizes w d) es fs gs hs n thread thread' (next_is_sound shape sizes w d s l.0) l.1 (tail_of e) in
     (ap (λ (c : Event). c ∷ es) (head_of e) ∙ ap (λ (cs : List Event). g ∷ cs) same.0, same.1)
 
--- each check is retired at one place, by one thread
-pub retired_at_one_place :
+-- each check is retired at one ticket, by one thread
+pub retired_at_one_ticket :
     (shape : ShapeLists) (sizes : Sizes) → IsWithinLimits shape
     → (before rest before' rest' : List Event) (n thread thread' : ℕ)
     → IsLegal shape sizes (before ++ Retire thread n ∷ rest)
     → before ++ Retire thread n ∷ rest ≡ before' ++ Retire thread' n ∷ rest'
     → (before ≡ before') × (thread ≡ thread')
 unfolding IsLegal
-retired_at_one_place shape sizes limits before rest before' rest' n thread thread' l e =
+retired_at_one_ticket shape sizes limits before rest before' rest' n thread thread' l e =
     one_retire_from shape sizes (first_world shape) before rest before' rest' n thread thread' (first_is_sound shape sizes limits) l e

@@ -34,7 +34,8 @@ pub record GrowByEvents : Type 0 where
 abbrev pub HaveLegalPrefixes : Type 0
 HaveLegalPrefixes = (shape : ShapeLists) (sizes : Sizes) (es fs : List Event) → IsLegal shape sizes (es ++ fs) → IsLegal shape sizes es
 
--- after every legal journal the heap is typed, launches count from 1, active checks have lanes, and copies are in order
+-- the world after every legal journal is sound: the heap is typed, launches count from 1, active checks have lanes, versions are noted, rows are
+-- apart, and launches fit
 abbrev pub HaveSoundWorlds : Type 0
 HaveSoundWorlds =
     (shape : ShapeLists) (sizes : Sizes) → IsWithinLimits shape
@@ -69,7 +70,7 @@ LoseNothing =
     → lost_pairs shape sizes es ≡ []
 
 -- a check that is known as launched was launched by an event of the journal, and its past is the heap before that event; what is
--- known of a check is what its Launch says, wherever in a legal journal it stands; and each number is launched at one place alone
+-- known of a check is what its Launch says, wherever in a legal journal it stands; and each number is launched at one ticket alone
 pub record TellOfLaunches : Type 0 where
   pub found :
       (shape : ShapeLists) (sizes : Sizes) (es : List Event) (n : ℕ) (launch : Launched)
@@ -81,7 +82,7 @@ pub record TellOfLaunches : Type 0 where
       → IsLegal shape sizes (before ++ Launch thread site n args ∷ rest)
       → launch_of shape sizes (before ++ Launch thread site n args ∷ rest) n
       ≡ Some (record { past = heap_after shape sizes before; thread = thread; site = site; args = args })
-  pub one_place :
+  pub one_ticket :
       (shape : ShapeLists) (sizes : Sizes)
       → (before rest before' rest' : List Event) (n thread site thread' site' : ℕ) (args args' : Args)
       → IsLegal shape sizes (before ++ Launch thread site n args ∷ rest)
@@ -89,7 +90,7 @@ pub record TellOfLaunches : Type 0 where
       → before ≡ before'
 
 -- a check that was launched is active, or was retired by an event of the journal; not both; only launched checks are retired; and each
--- number is retired at one place alone, by one thread
+-- number is retired at one ticket alone, by one thread
 pub record TellOfRetires : Type 0 where
   pub active_or_retired :
       (shape : ShapeLists) (sizes : Sizes) (es : List Event) (n : ℕ) (launch : Launched)
@@ -107,7 +108,7 @@ pub record TellOfRetires : Type 0 where
       → IsLegal shape sizes es
       → IsRetireIn es n thread
       → (launch : Launched) × (launch_of shape sizes es n ≡ Some launch)
-  pub one_place :
+  pub one_ticket :
       (shape : ShapeLists) (sizes : Sizes) → IsWithinLimits shape
       → (before rest before' rest' : List Event) (n thread thread' : ℕ)
       → IsLegal shape sizes (before ++ Retire thread n ∷ rest)

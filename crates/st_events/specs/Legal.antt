@@ -134,7 +134,7 @@ IsLegalFrom shape sizes w (e ∷ es) = IsLegalNext shape sizes w e × IsLegalFro
 unfoldable pub IsLegal : ShapeLists → Sizes → List Event → Type 0
 IsLegal shape sizes es = IsLegalFrom shape sizes (first_world shape) es
 
--- the event at this place is the first that is not legal after those before it, and this is its first reason
+-- the event with this ticket is the first that is not legal after those before it, and this is its first reason
 pub record IsFirstIllegal (shape : ShapeLists) (sizes : Sizes) (es : List Event) (place : ℕ) (why : Why) : Type 0 where
   pub before : List Event
   pub event : Event
