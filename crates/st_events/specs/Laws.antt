@@ -14,9 +14,10 @@ use Rattle.st_events.specs.Judge.{IsJudge, IsRightByLaunch, AllowsMoreLost}
 use Rattle.st_events.specs.Words.{BringsWords, HoldsWords, IsLaunchOfWords}
 use Rattle.st_events.specs.Sound.{Extends, IsSoundWorld}
 
--- one event more makes of a journal's world its next, and keeps it legal where the event is legal after it; and in a legal journal
--- each event is legal after those before it
+-- the empty journal is legal; one event more makes of a journal's world its next, and keeps it legal where the event is legal after
+-- it; and in a legal journal each event is legal after those before it
 pub record GrowByEvents : Type 0 where
+  pub empty : (shape : ShapeLists) (sizes : Sizes) → IsLegal shape sizes []
   pub world :
       (shape : ShapeLists) (sizes : Sizes) (es : List Event) (e : Event)
       → world_after shape sizes (es ++ e ∷ []) ≡ next shape sizes (world_after shape sizes es) e

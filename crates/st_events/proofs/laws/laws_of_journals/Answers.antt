@@ -1,6 +1,6 @@
 use Rattle.std.proofs.Common.{◌≡◌, true}
 use Rattle.st_events.proofs.WorldLemmas.{world_after_one_more}
-use Rattle.st_events.proofs.LegalLemmas.{one_more_is_legal, prefix_is_legal, each_is_legal}
+use Rattle.st_events.proofs.LegalLemmas.{empty_is_legal, one_more_is_legal, prefix_is_legal, each_is_legal}
 use Rattle.st_events.proofs.LegalEvents.{events_are_told}
 use Rattle.st_events.proofs.CountLemmas.{epoch_counts_launches, made_counts_news}
 use Rattle.st_events.proofs.JudgeLemmas.{judged_by_launch}
@@ -14,7 +14,7 @@ use Rattle.st_events.proofs.laws.laws_of_journals.Goals as goal
 
 pub returns : goal.returns
 returns c = record {
-  grow = record { world = world_after_one_more; legal = one_more_is_legal; each = each_is_legal };
+  grow = record { empty = empty_is_legal; world = world_after_one_more; legal = one_more_is_legal; each = each_is_legal };
   prefixes = prefix_is_legal;
   events = events_are_told;
   sound = legal_is_sound;
