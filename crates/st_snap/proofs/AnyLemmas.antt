@@ -43,32 +43,32 @@ any_among p (x ∷ xs) h = elim (or_cases (p x) (list_any p xs) h) [
 ]
 
 -- tests that agree on the list leave the same
-pub filter-same : (p q : ℕ → Bool) (ns : List ℕ) → ((n : ℕ) → is_among ns n ≡ true → p n ≡ q n) → filter p ns ≡ filter q ns
-filter-same p q [] h = refl
-filter-same p q (x ∷ xs) h = rw (h x (or_first (x == x) (is_among xs x) (same_number x)), filter-same p q xs (λ n a. h n (or_second (x == n) (is_among xs n) a))) refl
+pub same_tests_pass_same : (p q : ℕ → Bool) (ns : List ℕ) → ((n : ℕ) → is_among ns n ≡ true → p n ≡ q n) → filter p ns ≡ filter q ns
+same_tests_pass_same p q [] h = refl
+same_tests_pass_same p q (x ∷ xs) h = rw (h x (or_first (x == x) (is_among xs x) (same_number x)), same_tests_pass_same p q xs (λ n a. h n (or_second (x == n) (is_among xs n) a))) refl
 
 -- where none passes nothing is left
-pub filter-none : (p : ℕ → Bool) (ns : List ℕ) → list_any p ns ≡ false → filter p ns ≡ []
-filter-none p [] h = refl
-filter-none p (x ∷ xs) h = cases (p x) (list_any p xs) h (filter-none p xs)
+pub none_passes : (p : ℕ → Bool) (ns : List ℕ) → list_any p ns ≡ false → filter p ns ≡ []
+none_passes p [] h = refl
+none_passes p (x ∷ xs) h = cases (p x) (list_any p xs) h (none_passes p xs)
   where
     cases : (b c : Bool) → (b || c) ≡ false → (c ≡ false → filter p xs ≡ []) → cond b (x ∷ filter p xs) (filter p xs) ≡ []
     cases true c e f = cc
     cases false c e f = f e
 
 -- a row stands where some check needs it
-pub row-needed : (obj : ℕ) (p : ℕ → Bool) (ns : List ℕ) → list_any p ns ≡ true → row_if_needed obj (filter p ns) ≡ record { obj = obj; checks = filter p ns } ∷ []
-row-needed obj p [] h = cc
-row-needed obj p (x ∷ xs) h = cases (p x) h (row-needed obj p xs)
+pub needed_row_stands : (obj : ℕ) (p : ℕ → Bool) (ns : List ℕ) → list_any p ns ≡ true → row_if_needed obj (filter p ns) ≡ record { obj = obj; checks = filter p ns } ∷ []
+needed_row_stands obj p [] h = cc
+needed_row_stands obj p (x ∷ xs) h = cases (p x) h (needed_row_stands obj p xs)
   where
     cases : (b : Bool) → (b || list_any p xs) ≡ true → (list_any p xs ≡ true → row_if_needed obj (filter p xs) ≡ record { obj = obj; checks = filter p xs } ∷ []) → row_if_needed obj (cond b (x ∷ filter p xs) (filter p xs)) ≡ record { obj = obj; checks = cond b (x ∷ filter p xs) (filter p xs) } ∷ []
     cases true e f = refl
     cases false e f = f e
 
 -- two tests one after the other
-pub filter-swap : (p q : ℕ → Bool) (ns : List ℕ) → filter p (filter q ns) ≡ filter q (filter p ns)
-filter-swap p q [] = refl
-filter-swap p q (x ∷ xs) = cases (p x) refl (q x) refl (filter-swap p q xs)
+pub filters_swap : (p q : ℕ → Bool) (ns : List ℕ) → filter p (filter q ns) ≡ filter q (filter p ns)
+filters_swap p q [] = refl
+filters_swap p q (x ∷ xs) = cases (p x) refl (q x) refl (filters_swap p q xs)
   where
     cases : (b : Bool) → p x ≡ b → (c : Bool) → q x ≡ c → filter p (filter q xs) ≡ filter q (filter p xs) → filter p (cond c (x ∷ filter q xs) (filter q xs)) ≡ filter q (cond b (x ∷ filter p xs) (filter p xs))
     cases true e true f r = rw (e, f, r) refl
@@ -77,20 +77,20 @@ filter-swap p q (x ∷ xs) = cases (p x) refl (q x) refl (filter-swap p q xs)
     cases false e false f r = r
 
 -- a number that is not there
-pub without-none : (n : ℕ) (ns : List ℕ) → is_among ns n ≡ false → without n ns ≡ ns
-without-none n [] h = refl
-without-none n (x ∷ xs) h = cases (x == n) (is_among xs n) h (without-none n xs)
+pub without_absent_is_same : (n : ℕ) (ns : List ℕ) → is_among ns n ≡ false → without n ns ≡ ns
+without_absent_is_same n [] h = refl
+without_absent_is_same n (x ∷ xs) h = cases (x == n) (is_among xs n) h (without_absent_is_same n xs)
   where
     cases : (b c : Bool) → (b || c) ≡ false → (c ≡ false → without n xs ≡ xs) → cond (not b) (x ∷ without n xs) (without n xs) ≡ x ∷ xs
     cases true c e f = cc
     cases false c e f = ap (λ ys. x ∷ ys) (f e)
 
 -- of numbers that rise, one less where one is left out
-pub length-without : (n : ℕ) (ns : List ℕ) → IsRising ns → is_among ns n ≡ true → length (without n ns) + 1 ≡ length ns
-length-without n [] r h = cc
-length-without n (x ∷ xs) r h = elim (eqb_tells x n) [
-  | inl e ↦ rw (e.0, without-none n xs (not_among (is_among xs n) refl e.1)) (omega arith)
-  | inr e ↦ rw e.0 (let rest : is_among xs n ≡ true = ap (λ b. b || is_among xs n) (sym e.0) ∙ h in omega (arith, length-without n xs r.1 rest))
+pub one_left_out_is_one_less : (n : ℕ) (ns : List ℕ) → IsRising ns → is_among ns n ≡ true → length (without n ns) + 1 ≡ length ns
+one_left_out_is_one_less n [] r h = cc
+one_left_out_is_one_less n (x ∷ xs) r h = elim (eqb_tells x n) [
+  | inl e ↦ rw (e.0, without_absent_is_same n xs (not_among (is_among xs n) refl e.1)) (omega arith)
+  | inr e ↦ rw e.0 (let rest : is_among xs n ≡ true = ap (λ b. b || is_among xs n) (sym e.0) ∙ h in omega (arith, one_left_out_is_one_less n xs r.1 rest))
 ]
   where
     not_among : (b : Bool) → is_among xs n ≡ b → x ≡ n → is_among xs n ≡ false

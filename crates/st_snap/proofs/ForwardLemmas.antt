@@ -11,9 +11,9 @@ use Rattle.st_events.proofs.LegalEvents.{is_below}
 pub record IsForwarded (stamp : ℕ) (target : Target) (lane : Option (Option ℕ)) (before after : Forward) : Type 0 where
   pub cases : ((after ≡ before) × ((n : ℕ) → lane ≡ Some (Some n) → n ≤ stamp)) ⊎ ((n : ℕ) × (lane ≡ Some (Some n)) × (stamp < n) × (after.epoch ≡ n) × (after.target ≡ target))
 
-one-forwarded : (stamp : ℕ) (target : Target) (lane : Option ℕ) (f : Forward) → IsForwarded stamp target (Some lane) f (forward_one stamp target lane f)
-one-forwarded stamp target None f = record { cases = inl (refl, λ n e. cc) }
-one-forwarded stamp target (Some k) f = record { cases = cases (nat_lt stamp k) refl }
+one_is_forwarded : (stamp : ℕ) (target : Target) (lane : Option ℕ) (f : Forward) → IsForwarded stamp target (Some lane) f (forward_one stamp target lane f)
+one_is_forwarded stamp target None f = record { cases = inl (refl, λ n e. cc) }
+one_is_forwarded stamp target (Some k) f = record { cases = cases (nat_lt stamp k) refl }
   where
     at_most : (a b : ℕ) → nat_lt a b ≡ false → b ≤ a
     at_most a b e = grind (arith, nat_tests)
@@ -23,14 +23,14 @@ one-forwarded stamp target (Some k) f = record { cases = cases (nat_lt stamp k) 
     cases false e = inl (refl, λ n s. let t : k ≡ n = cc in omega (arith, at_most stamp k e))
 
 -- at each place
-pub forwarded-at : (stamp : ℕ) (target : Target) (lanes : List (Option ℕ)) (fs : List Forward) (l : ℕ) (after : Forward) → slice_get (forward_all stamp target lanes fs) l ≡ Some after → (before : Forward) × (slice_get fs l ≡ Some before) × IsForwarded stamp target (slice_get lanes l) before after
-forwarded-at stamp target lanes [] l after e = cc
-forwarded-at stamp target [] (f ∷ fs) l after e = (after, e, record { cases = inl (refl, λ n s. nothing l n s) })
+pub forwarded_at_lane : (stamp : ℕ) (target : Target) (lanes : List (Option ℕ)) (fs : List Forward) (l : ℕ) (after : Forward) → slice_get (forward_all stamp target lanes fs) l ≡ Some after → (before : Forward) × (slice_get fs l ≡ Some before) × IsForwarded stamp target (slice_get lanes l) before after
+forwarded_at_lane stamp target lanes [] l after e = cc
+forwarded_at_lane stamp target [] (f ∷ fs) l after e = (after, e, record { cases = inl (refl, λ n s. nothing l n s) })
   where
     nothing : (l n : ℕ) → slice_get [] l ≡ Some (Some n) → n ≤ stamp
     nothing l n s = cc
-forwarded-at stamp target (lane ∷ lanes) (f ∷ fs) zero after e = (f, refl, same (forward_one stamp target lane f) e (one-forwarded stamp target lane f))
+forwarded_at_lane stamp target (lane ∷ lanes) (f ∷ fs) zero after e = (f, refl, same (forward_one stamp target lane f) e (one_is_forwarded stamp target lane f))
   where
     same : (g : Forward) → Some g ≡ Some after → IsForwarded stamp target (Some lane) f g → IsForwarded stamp target (Some lane) f after
     same g s h = let t : g ≡ after = cc in subst (λ (x : Forward). IsForwarded stamp target (Some lane) f x) t h
-forwarded-at stamp target (lane ∷ lanes) (f ∷ fs) (suc l) after e = forwarded-at stamp target lanes fs l after e
+forwarded_at_lane stamp target (lane ∷ lanes) (f ∷ fs) (suc l) after e = forwarded_at_lane stamp target lanes fs l after e

@@ -21,5 +21,5 @@ pub forward_next : (stamp : ℕ) (target : Target) (lanes : List (Option ℕ)) (
 forward_next stamp target lanes fs i d h = rw add-one (forward_more stamp target lanes fs i d h)
 
 -- two headers of the same parts
-pub header-same : (a b : Header) → a.stamp ≡ b.stamp → a.forward ≡ b.forward → a ≡ b
-header-same a b s f = ap (λ (n : ℕ). record a { stamp = n }) s ∙ ap (λ (fs : List Forward). record b { forward = fs }) f
+pub headers_of_same_parts : (a b : Header) → a.stamp ≡ b.stamp → a.forward ≡ b.forward → a ≡ b
+headers_of_same_parts a b s f = ap (λ (n : ℕ). record a { stamp = n }) s ∙ ap (λ (fs : List Forward). record b { forward = fs }) f

@@ -1,13 +1,10 @@
 mod AnyLemmas
-mod ApartLemmas
-mod DriveLemmas
 mod ForwardLemmas
 mod HeaderLemmas
 mod HeldLemmas
 mod HoldsLemmas
 mod LaneLemmas
-mod LegalEvents
-mod ListLemmas
+pub mod ListLemmas
 mod PoolLemmas
 mod ReadLemmas
 mod RepresentsChange

@@ -26,12 +26,12 @@ use Rattle.st_snap.specs.Represents.{Represents, IsTargetOf}
 abbrev pub IsSmall : Heap → Type 0
 IsSmall heap = (obj : ℕ) (x : Object) → heap obj ≡ Some x → length x.words ≤ MOST_FIELDS
 
-pub small-typed : (shape : ShapeLists) (heap : Heap) → IsWithinLimits shape → IsTypedHeap shape heap → IsSmall heap
-small-typed shape heap l t obj x e = omega (arith, t.lengths obj x e, kinds_are_few shape l x.class)
+pub typed_is_small : (shape : ShapeLists) (heap : Heap) → IsWithinLimits shape → IsTypedHeap shape heap → IsSmall heap
+typed_is_small shape heap l t obj x e = omega (arith, t.lengths obj x e, kinds_are_few shape l x.class)
 
 -- so a field of a cell is below that number
-pub small-field : (heap : Heap) (obj field : ℕ) → IsSmall heap → IsSome (word_at heap obj field) → field < MOST_FIELDS
-small-field heap obj field small some = cases (heap obj) refl some
+pub field_is_small : (heap : Heap) (obj field : ℕ) → IsSmall heap → IsSome (word_at heap obj field) → field < MOST_FIELDS
+field_is_small heap obj field small some = cases (heap obj) refl some
   where
     within : (x : Object) (o : Option ℕ) → slice_get x.words field ≡ o → IsSome o → field < length x.words
     within x None e i = cc
@@ -46,32 +46,32 @@ record HasSmallPasts (shape : ShapeLists) (sizes : Sizes) (w : World) : Type 0 w
   sound : IsSoundWorld shape sizes w
   pasts : (n : ℕ) (l : Launched) → w.launched n ≡ Some l → IsSmall l.past
 
-small-next : (shape : ShapeLists) (sizes : Sizes) (w : World) (e : Event) → IsWithinLimits shape → HasSmallPasts shape sizes w → IsLegalNext shape sizes w e → (n : ℕ) (l : Launched) → (next shape sizes w e).launched n ≡ Some l → IsSmall l.past
-small-next shape sizes w (New m obj class) fits s legal n l h = s.pasts n l h
-small-next shape sizes w (Load m obj field value) fits s legal n l h = s.pasts n l h
-small-next shape sizes w (Store m obj field value) fits s legal n l h = s.pasts n l h
-small-next shape sizes w (Cas m obj field expect value true) fits s legal n l h = s.pasts n l h
-small-next shape sizes w (Cas m obj field expect value false) fits s legal n l h = s.pasts n l h
-small-next shape sizes w (Launch m site number args) fits s legal n l h = elim (eqb_tells n number) [
-  | inl y ↦ small-past (record { past = w.heap; thread = m; site = site; args = args }) (rw y.0 at h) (small-typed shape w.heap fits s.sound.typed)
+next_is_small : (shape : ShapeLists) (sizes : Sizes) (w : World) (e : Event) → IsWithinLimits shape → HasSmallPasts shape sizes w → IsLegalNext shape sizes w e → (n : ℕ) (l : Launched) → (next shape sizes w e).launched n ≡ Some l → IsSmall l.past
+next_is_small shape sizes w (New m obj class) fits s legal n l h = s.pasts n l h
+next_is_small shape sizes w (Load m obj field value) fits s legal n l h = s.pasts n l h
+next_is_small shape sizes w (Store m obj field value) fits s legal n l h = s.pasts n l h
+next_is_small shape sizes w (Cas m obj field expect value true) fits s legal n l h = s.pasts n l h
+next_is_small shape sizes w (Cas m obj field expect value false) fits s legal n l h = s.pasts n l h
+next_is_small shape sizes w (Launch m site number args) fits s legal n l h = elim (eqb_tells n number) [
+  | inl y ↦ past_is_small (record { past = w.heap; thread = m; site = site; args = args }) (rw y.0 at h) (typed_is_small shape w.heap fits s.sound.typed)
   | inr ne ↦ s.pasts n l (rw ne.0 at h)
 ]
   where
-    small-past : (k : Launched) → Some k ≡ Some l → IsSmall k.past → IsSmall l.past
-    small-past k e small = let same : k ≡ l = cc in subst (λ (x : Launched). IsSmall x.past) same small
-small-next shape sizes w (Retire m number) fits s legal n l h = s.pasts n l h
+    past_is_small : (k : Launched) → Some k ≡ Some l → IsSmall k.past → IsSmall l.past
+    past_is_small k e small = let same : k ≡ l = cc in subst (λ (x : Launched). IsSmall x.past) same small
+next_is_small shape sizes w (Retire m number) fits s legal n l h = s.pasts n l h
 
-pub small-pasts : (shape : ShapeLists) (sizes : Sizes) (es : List Event) → IsWithinLimits shape → IsLegal shape sizes es → (n : ℕ) (l : Launched) → (world_after shape sizes es).launched n ≡ Some l → IsSmall l.past
-small-pasts shape sizes es fits legal = (stays shape sizes (HasSmallPasts shape sizes)
+pub pasts_are_small : (shape : ShapeLists) (sizes : Sizes) (es : List Event) → IsWithinLimits shape → IsLegal shape sizes es → (n : ℕ) (l : Launched) → (world_after shape sizes es).launched n ≡ Some l → IsSmall l.past
+pasts_are_small shape sizes es fits legal = (stays shape sizes (HasSmallPasts shape sizes)
     (record { sound = first_is_sound shape sizes fits; pasts = λ n l e. cc })
-    (λ w e s ok. record { sound = next_is_sound shape sizes w e s.sound ok; pasts = small-next shape sizes w e fits s ok })
+    (λ w e s ok. record { sound = next_is_sound shape sizes w e s.sound ok; pasts = next_is_small shape sizes w e fits s ok })
     es legal).pasts
 
 -- ---- what a read comes to
 
 -- an object that stood at a launch stands now
-pub still-there : (shape : ShapeLists) (sizes : Sizes) (w : World) (obj n : ℕ) (l : Launched) → IsSoundWorld shape sizes w → w.launched n ≡ Some l → IsSome (l.past obj) → IsSome (w.heap obj)
-still-there shape sizes w obj n l s e stood = cases (w.heap obj) refl
+pub object_is_still_there : (shape : ShapeLists) (sizes : Sizes) (w : World) (obj n : ℕ) (l : Launched) → IsSoundWorld shape sizes w → w.launched n ≡ Some l → IsSome (l.past obj) → IsSome (w.heap obj)
+object_is_still_there shape sizes w obj n l s e stood = cases (w.heap obj) refl
   where
     cases : (o : Option Object) → w.heap obj ≡ o → IsSome (w.heap obj)
     cases (Some x) h = rw h refl
@@ -82,16 +82,16 @@ still-there shape sizes w obj n l s e stood = cases (w.heap obj) refl
         let g = rw past at stood in cc
 
 -- an object that stands has its place
-pub has-place : (objects : List (Option Object)) (obj : ℕ) → IsSome (heap_of objects obj) → obj < length objects
-has-place objects obj some = cases (slice_get objects obj) refl some
+pub object_has_place : (objects : List (Option Object)) (obj : ℕ) → IsSome (heap_of objects obj) → obj < length objects
+object_has_place objects obj some = cases (slice_get objects obj) refl some
   where
     cases : (o : Option (Option Object)) → slice_get objects obj ≡ o → IsSome (option_flatten o) → obj < length objects
     cases None e i = cc
     cases (Some x) e i = slice_get_within objects obj x e
 
 -- a cell's object stands
-pub object-of-cell : (heap : Heap) (obj field : ℕ) → IsSome (word_at heap obj field) → IsSome (heap obj)
-object-of-cell heap obj field some = cases (heap obj) refl some
+pub cell_has_object : (heap : Heap) (obj field : ℕ) → IsSome (word_at heap obj field) → IsSome (heap obj)
+cell_has_object heap obj field some = cases (heap obj) refl some
   where
     cases : (o : Option Object) → heap obj ≡ o → IsSome (word_of o field) → IsSome (heap obj)
     cases None e i = cc
@@ -101,36 +101,36 @@ object-of-cell heap obj field some = cases (heap obj) refl some
 pub record IsAnswer (w : World) (past : Heap) (obj n field : ℕ) (answer : Option ℕ) : Type 0 where
   pub cases : ((answer ≡ word_at past obj field) × (is_lost w.lost obj n ≡ false)) ⊎ ((answer ≡ None) × (is_lost w.lost obj n ≡ true))
 
-not-lost : (shape : ShapeLists) (sizes : Sizes) (w : World) (obj n : ℕ) → IsSoundWorld shape sizes w → w.stamp obj < n → is_lost w.lost obj n ≡ false
-not-lost shape sizes w obj n s low = cases (is_lost w.lost obj n) refl
+not_lost : (shape : ShapeLists) (sizes : Sizes) (w : World) (obj n : ℕ) → IsSoundWorld shape sizes w → w.stamp obj < n → is_lost w.lost obj n ≡ false
+not_lost shape sizes w obj n s low = cases (is_lost w.lost obj n) refl
   where
     cases : (b : Bool) → is_lost w.lost obj n ≡ b → b ≡ false
     cases false e = refl
     cases true e = absurd (omega (arith, low, (s.copies.lost_noted obj n e).changed))
 
 -- the words of a copy are those of the version
-words-then : (words : List ℕ) (x : Option Object) (field : ℕ) → HasWords words x → IsSome (word_of x field) → Some (slice_index words field) ≡ word_of x field
-words-then words x field has some = cases (word_of x field) refl some
+words_at_launch : (words : List ℕ) (x : Option Object) (field : ℕ) → HasWords words x → IsSome (word_of x field) → Some (slice_index words field) ≡ word_of x field
+words_at_launch words x field has some = cases (word_of x field) refl some
   where
     cases : (o : Option ℕ) → word_of x field ≡ o → IsSome o → Some (slice_index words field) ≡ word_of x field
     cases None e i = cc
     cases (Some word) e i = ap Some (has field word e) ∙ sym e
 
-answer-sent : (w : World) (t : TableLists) (past : Heap) (obj n field : ℕ) (target : Target) (answer : Option ℕ) → IsSome (word_at past obj field) → IsTargetOf w.lost t.pool obj n (past obj) target → AnswersAt t.pool field target answer → IsAnswer w past obj n field answer
-answer-sent w t past obj n field Gone answer some lost a = record { cases = inr (a, lost) }
-answer-sent w t past obj n field (Copied copy) answer some held a = record { cases = inl (a held.1.kept held.1.among held.1.number ∙ words-then held.1.kept.words (past obj) field held.1.words some, held.2) }
+answer_where_sent : (w : World) (t : TableLists) (past : Heap) (obj n field : ℕ) (target : Target) (answer : Option ℕ) → IsSome (word_at past obj field) → IsTargetOf w.lost t.pool obj n (past obj) target → AnswersAt t.pool field target answer → IsAnswer w past obj n field answer
+answer_where_sent w t past obj n field Gone answer some lost a = record { cases = inr (a, lost) }
+answer_where_sent w t past obj n field (Copied copy) answer some held a = record { cases = inl (a held.1.kept held.1.among held.1.number ∙ words_at_launch held.1.kept.words (past obj) field held.1.words some, held.2) }
 
-pub read-answer : (shape : ShapeLists) (sizes : Sizes) (w : World) (t : TableLists) (lane : Lane) (l : Launched) (obj field : ℕ) (answer : Option ℕ) → IsSoundWorld shape sizes w → Represents sizes w t → slice_get t.lanes lane.index ≡ Some (Some lane.number) → w.launched lane.number ≡ Some l → IsSome (word_at l.past obj field) → Reads t lane obj field answer → IsAnswer w l.past obj lane.number field answer
-read-answer shape sizes w t lane l obj field answer s r here launched some a =
-    let stood = object-of-cell l.past obj field some in
+pub read_is_right : (shape : ShapeLists) (sizes : Sizes) (w : World) (t : TableLists) (lane : Lane) (l : Launched) (obj field : ℕ) (answer : Option ℕ) → IsSoundWorld shape sizes w → Represents sizes w t → slice_get t.lanes lane.index ≡ Some (Some lane.number) → w.launched lane.number ≡ Some l → IsSome (word_at l.past obj field) → Reads t lane obj field answer → IsAnswer w l.past obj lane.number field answer
+read_is_right shape sizes w t lane l obj field answer s r here launched some a =
+    let stood = cell_has_object l.past obj field some in
     let v = r.forwards.versions obj lane.index lane.number a.forward l here launched stood (record { header = a.header; found = a.found; forward = a.forwarded }) in
     elim (eqb_tells a.forward.epoch lane.number) [
-      | inl y ↦ answer-sent w t l.past obj lane.number field a.forward.target answer some (v.forwarded y.1).1 (a.sent y.1)
-      | inr ne ↦ record { cases = inl (a.live ne.1 ∙ ap (λ (h : Heap). word_at h obj field) r.live.heap ∙ sym (ap (λ (x : Option Object). word_of x field) (s.pasts.same obj lane.number l launched (v.live ne.1))), not-lost shape sizes w obj lane.number s (v.live ne.1)) }
+      | inl y ↦ answer_where_sent w t l.past obj lane.number field a.forward.target answer some (v.forwarded y.1).1 (a.sent y.1)
+      | inr ne ↦ record { cases = inl (a.live ne.1 ∙ ap (λ (h : Heap). word_at h obj field) r.live.heap ∙ sym (ap (λ (x : Option Object). word_of x field) (s.pasts.same obj lane.number l launched (v.live ne.1))), not_lost shape sizes w obj lane.number s (v.live ne.1)) }
     ]
 
 -- each copy that the check is sent to is one of the pool's
-pub sent-to-copies : (sizes : Sizes) (w : World) (t : TableLists) (lane : Lane) (l : Launched) (obj : ℕ) → Represents sizes w t → slice_get t.lanes lane.index ≡ Some (Some lane.number) → w.launched lane.number ≡ Some l → IsSome (l.past obj) → AreCopies t lane obj
-sent-to-copies sizes w t lane l obj r here launched stood = λ header forward copy found forwarded epoch target.
+pub sent_to_copies : (sizes : Sizes) (w : World) (t : TableLists) (lane : Lane) (l : Launched) (obj : ℕ) → Represents sizes w t → slice_get t.lanes lane.index ≡ Some (Some lane.number) → w.launched lane.number ≡ Some l → IsSome (l.past obj) → AreCopies t lane obj
+sent_to_copies sizes w t lane l obj r here launched stood = λ header forward copy found forwarded epoch target.
     let v = r.forwards.versions obj lane.index lane.number forward l here launched stood (record { header = header; found = found; forward = forwarded }) in
     (subst (IsTargetOf w.lost t.pool obj lane.number (l.past obj)) target (v.forwarded epoch).1).0

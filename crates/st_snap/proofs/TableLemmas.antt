@@ -3,7 +3,7 @@ use Rattle.std.proofs.Common.{◌≡◌, ℕ, length, IsSome, ap, subst, ◌∙�
 use Rattle.st_snap.specs.Table.{TableLists, KeepsVersion, Writes, Changes, Makes, adjust, sent, stamped}
 use Rattle.st_events.specs.Heap.{heap_of, word_at, with_word}
 use Rattle.st_events.specs.Shape.{ShapeLists}
-use Rattle.st_snap.proofs.ListLemmas.{length-adjust}
+use Rattle.st_snap.proofs.ListLemmas.{adjusting_keeps_length}
 
 pub kept_same_heap : (before after : TableLists) (obj : ℕ) → KeepsVersion before after obj → after.heap ≡ before.heap
 kept_same_heap before after obj k = elim k.cases [ inl y ↦ ap (λ (t : TableLists). t.heap) y.rest | inr n ↦ ap (λ (t : TableLists). t.heap) n.1 ]
@@ -13,7 +13,7 @@ kept_same_epoch before after obj k = elim k.cases [ inl y ↦ ap (λ (t : TableL
 
 pub kept_header_room : (before after : TableLists) (obj : ℕ) → KeepsVersion before after obj → length after.headers ≡ length before.headers
 kept_header_room before after obj k = elim k.cases [
-  | inl y ↦ ap (λ (t : TableLists). length t.headers) y.rest ∙ length-adjust (sent y.target before.lanes) before.headers obj
+  | inl y ↦ ap (λ (t : TableLists). length t.headers) y.rest ∙ adjusting_keeps_length (sent y.target before.lanes) before.headers obj
   | inr n ↦ ap (λ (t : TableLists). length t.headers) n.1
 ]
 

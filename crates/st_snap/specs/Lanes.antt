@@ -1,4 +1,4 @@
-use Rattle.std.specs.Prelude.{ℕ, ◌==◌, nat_lt, nat_le, Bool, true, false, ◌&&◌, if◌then◌else◌, List, [], ◌∷◌, map, position, slice_set, replicate, Option, Some, None}
+use Rattle.std.specs.Prelude.{ℕ, ◌==◌, nat_lt, nat_le, Bool, true, false, ◌&&◌, if◌then◌else◌, List, [], ◌∷◌, map, position, slice_set, replicate, max, Option, Some, None}
 use Rattle.st_events.specs.declared.events.Event.{Event}
 use Rattle.st_events.specs.declared.events.Event.TheVariants.{New, Load, Store, Cas, Launch, Retire}
 
@@ -20,6 +20,12 @@ is_within after upto number = nat_lt after number && nat_le number upto
 abbrev pub is_between : ℕ → ℕ → Option ℕ → Bool
 is_between after upto None = false
 is_between after upto (Some number) = is_within after upto number
+
+-- the newest check at a lane; 0 where there is none
+abbrev pub newest_of : List (Option ℕ) → ℕ
+newest_of [] = 0
+newest_of (None ∷ lanes) = newest_of lanes
+newest_of (Some number ∷ lanes) = max number (newest_of lanes)
 
 -- the lanes with a check at the first that was idle
 abbrev pub put_at : ℕ → List (Option ℕ) → Option ℕ → List (Option ℕ)

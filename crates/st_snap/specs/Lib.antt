@@ -1,4 +1,3 @@
-pub mod Drive
 pub mod Headers
 pub mod Holds
 pub mod Lanes

@@ -1,5 +1,5 @@
 use Rattle.std.specs.Prelude.{◌≡◌, ℕ, ◌<◌, ◌≤◌, Bool, List, [], ◌∷◌, ◌++◌, length, Option}
-use Rattle.std.specs.List.{list_any}
+use Rattle.std.specs.List.{list_any, AllPairs}
 use Rattle.st_snap.specs.declared.headers.Target.{Target}
 use Rattle.st_snap.specs.declared.headers.Target.TheVariants.{Copied, Gone}
 use Rattle.st_snap.specs.declared.pools.Version.{Version}
@@ -34,3 +34,7 @@ Keeps before after' obj after upto words Gone = (before.size ≤ length before.v
 -- whether some check at a lane reads the version
 abbrev pub is_read : List (Option ℕ) → KeptVersion → Bool
 is_read lanes kept = list_any (is_between kept.version.after kept.version.upto) lanes
+
+-- no version was kept at an earlier epoch than one before it
+abbrev pub AreInOrder : List KeptVersion → Type 0
+AreInOrder versions = AllPairs (λ earlier later. earlier.version.upto ≤ later.version.upto) versions

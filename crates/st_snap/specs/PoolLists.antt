@@ -1,5 +1,6 @@
-use Rattle.std.specs.Prelude.{◌≡◌, ℕ, ◌+◌, ◌^◌, ◌==◌, ◌<◌, ◌≤◌, nat_lt, Bool, not, if◌then◌else◌, List, [], length, map, count_by, slice_index_or, Option}
-use Rattle.std.specs.List.{list_any}
+-- The pool as it is in memory: the words by copy, the free copies and the versions kept
+use Rattle.std.specs.Prelude.{◌≡◌, ℕ, ◌+◌, ◌^◌, ◌==◌, ◌<◌, ◌≤◌, nat_lt, Bool, if◌then◌else◌, List, [], length, map, count_by, slice_index_or, Option}
+use Rattle.std.specs.List.{list_any, AllPairs}
 use Rattle.st_snap.specs.Lanes.{is_between}
 use Rattle.st_snap.specs.declared.pools.Version.{Version}
 use Rattle.st_snap.specs.Pool.{KeptVersion, PoolVersions}
@@ -24,6 +25,10 @@ pub record IsPool (words : List (List ℕ)) (free : List ℕ) (kept : List Versi
   pub all : length free + length kept ≡ length words
   pub once : (copy : ℕ) → uses free kept copy ≡ (if nat_lt copy (length words) then 1 else 0)
 
--- whether no check at a lane reads the version
-abbrev pub is_unread : List (Option ℕ) → Version → Bool
-is_unread lanes version = not (list_any (is_between version.after version.upto) lanes)
+-- whether some check at a lane reads the version
+abbrev pub is_version_read : List (Option ℕ) → Version → Bool
+is_version_read lanes version = list_any (is_between version.after version.upto) lanes
+
+-- no version was kept at an earlier epoch than one before it
+abbrev pub AreVersionsInOrder : List Version → Type 0
+AreVersionsInOrder kept = AllPairs (λ earlier later. earlier.upto ≤ later.upto) kept

@@ -1,6 +1,6 @@
 -- What the tables mean: the world that a journal makes
 use Rattle.std.specs.Prelude.{◌≡◌, ◌≢◌, ℕ, ◌+◌, ◌<◌, ◌≤◌, true, false, List, length, map, filter, count_by, slice_get, Option, Some, IsSome}
-use Rattle.std.specs.List.{Contains, All}
+use Rattle.std.specs.List.{Contains, All, list_any}
 use Rattle.st_events.specs.declared.limits.Sizes.{Sizes}
 use Rattle.st_events.specs.Heap.{Object, heap_of}
 use Rattle.st_events.specs.World.{World, Launched, Row, Pair, is_among, is_lost}
@@ -9,7 +9,7 @@ use Rattle.st_snap.specs.declared.headers.Header.{Header}
 use Rattle.st_snap.specs.declared.headers.Target.{Target}
 use Rattle.st_snap.specs.declared.headers.Target.TheVariants.{Copied, Gone}
 use Rattle.st_snap.specs.Lanes.{is_idle, is_within}
-use Rattle.st_snap.specs.Pool.{PoolVersions, KeptVersion}
+use Rattle.st_snap.specs.Pool.{PoolVersions, KeptVersion, AreInOrder}
 use Rattle.st_snap.specs.Table.{TableLists, object_room, HasWords}
 
 -- the live heap, the stamps, the counts of objects and the epoch are the world's
@@ -34,11 +34,17 @@ pub record AreLanes (sizes : Sizes) (active : List ℕ) (lanes : List (Option �
 abbrev pub row_of : List ℕ → KeptVersion → Row
 row_of active kept = record { obj = kept.version.obj; checks = filter (is_within kept.version.after kept.version.upto) active }
 
+-- versions that were kept up to this epoch, in order, each of which some active check needs
+pub record AreNeeded (epoch : ℕ) (active : List ℕ) (versions : List KeptVersion) : Type 0 where
+  pub upto : All (λ kept. kept.version.upto ≤ epoch) versions
+  pub order : AreInOrder versions
+  pub some : All (λ kept. list_any (is_within kept.version.after kept.version.upto) active ≡ true) versions
+
 -- the versions in the pool are the copies kept, in their order
 pub record ArePooled (sizes : Sizes) (w : World) (pool : PoolVersions) : Type 0 where
   pub size : pool.size ≡ sizes.copies
   pub rows : map (row_of w.active) pool.versions ≡ w.kept
-  pub upto : All (λ kept. kept.version.upto ≤ w.epoch) pool.versions
+  pub needed : AreNeeded w.epoch w.active pool.versions
 
 -- the pool keeps, in the copy of this number, the version of an object that stood at the launch of a check
 pub record IsCopyOf (pool : PoolVersions) (obj n : ℕ) (past : Option Object) (copy : ℕ) : Type 0 where

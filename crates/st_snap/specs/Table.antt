@@ -1,6 +1,6 @@
-use Rattle.std.specs.Prelude.{◌≡◌, ◌≢◌, ℕ, zero, suc, ◌+◌, ◌*◌, ◌<◌, ◌⊎◌}
+use Rattle.std.specs.Prelude.{◌≡◌, ◌≢◌, ℕ, zero, suc, ◌+◌, ◌*◌, ◌<◌, ◌≤◌, ◌⊎◌}
 use Rattle.std.specs.Prelude.{Bool, true, false, List, [], ◌∷◌, length, filter, position, slice_get, slice_set, slice_index, replicate, Option, Some, None}
-use Rattle.std.specs.List.{list_any, Contains}
+use Rattle.std.specs.List.{Contains}
 use Rattle.st_events.specs.declared.limits.Sizes.{Sizes}
 use Rattle.st_events.specs.declared.heaps.TheConstants.{FIRST_OF_REGIONS}
 use Rattle.st_events.specs.Shape.{ShapeLists}
@@ -11,7 +11,7 @@ use Rattle.st_snap.specs.declared.headers.Target.{Target}
 use Rattle.st_snap.specs.declared.headers.Target.TheVariants.{Copied, Gone}
 use Rattle.st_snap.specs.declared.lanes.Lane.{Lane}
 use Rattle.st_snap.specs.Headers.{forward_all}
-use Rattle.st_snap.specs.Lanes.{is_idle, is_between}
+use Rattle.st_snap.specs.Lanes.{is_idle, newest_of}
 use Rattle.st_snap.specs.Pool.{PoolVersions, KeptVersion, Keeps, is_read, no_versions}
 
 -- the tables as lists: what stands at each number, each object's header, how many objects each mutator made, how many
@@ -69,18 +69,18 @@ HasWords words x = (field word : ℕ) → word_of x field ≡ Some word → slic
 
 -- some check needs the version of the object, which has this header; all that do are sent to one target
 pub record KeepsFor (before after : TableLists) (obj : ℕ) (header : Header) : Type 0 where
-  pub needed : list_any (is_between header.stamp before.epoch) before.lanes ≡ true
+  pub needed : header.stamp < newest_of before.lanes
   pub target : Target
   pub words : List ℕ
   pub has : HasWords words (heap_of before.heap obj)
   pub kept : Keeps before.pool after.pool obj header.stamp before.epoch words target
   pub rest : after ≡ record before { pool = after.pool; headers = adjust (sent target before.lanes) before.headers obj }
 
--- the version of an object is kept where some check needs it
+-- the version of an object is kept where some check needs it: one that was launched after its stamp
 pub record KeepsVersion (before after : TableLists) (obj : ℕ) : Type 0 where
   pub header : Header
   pub found : slice_get before.headers obj ≡ Some header
-  pub cases : KeepsFor before after obj header ⊎ ((list_any (is_between header.stamp before.epoch) before.lanes ≡ false) × (after ≡ before))
+  pub cases : KeepsFor before after obj header ⊎ ((newest_of before.lanes ≤ header.stamp) × (after ≡ before))
 
 -- a word is set, and the stamp of its object becomes the epoch; nothing else changes
 pub record Writes (before after : TableLists) (obj field value : ℕ) : Type 0 where

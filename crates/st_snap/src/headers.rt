@@ -2,6 +2,7 @@
 ghost use Rattle.std.specs.Prelude.{◌≡◌, ◌≤◌, length};
 ghost use Rattle.st_snap.specs.Headers.{forward_all, forward_one as one_forwarded};
 
+use crate::lanes::Lanes;
 use st_events::MOST_LANES;
 
 /// The most lanes, as a length.
@@ -43,12 +44,13 @@ impl Header {
     };
 
     /// Sends each check that was launched after the stamp to `target`.
-    pub fn forward_to(&mut self, lanes: &[Option<u32>], target: Target)
+    #[tactic(auto, using(crate::proofs::HeaderLemmas::forward_none, crate::proofs::HeaderLemmas::forward_next))]
+    pub fn forward_to(&mut self, lanes: &Lanes, target: Target)
         requires { length lanes.now ≤ LANES }
         ensures stamp { self.new.stamp ≡ self.old.stamp }
         ensures forward { self.new.forward ≡ forward_all self.old.stamp target lanes.now self.old.forward }
     {
-        for (index, lane) in lanes.iter().enumerate() {
+        for (index, lane) in lanes.as_slice().iter().enumerate() {
             self.forward[index] = forward_one(*lane, self.stamp, target, self.forward[index]);
         }
     }

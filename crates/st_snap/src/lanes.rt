@@ -1,7 +1,11 @@
 //! Lanes: each active check has one, and it has the least that was idle at its launch.
-ghost use Rattle.std.specs.Prelude.{◌≡◌, position, count_by};
+ghost use Rattle.std.specs.Prelude.{◌≡◌, ℕ, ◌<◌, List, Option, None, Some, length, replicate, position, count_by, slice_set, IfOk};
 ghost use Rattle.std.specs.List.{list_any};
-ghost use Rattle.st_snap.specs.Lanes.{is_idle, is_between};
+ghost use Rattle.st_snap.specs.Lanes.{is_idle, is_between, newest_of};
+
+use st_events::NoMemory;
+use std::alloc::Global;
+use std::marker::Model;
 
 /// The place of an active check. It is moved and never copied, so a check is retired once.
 #[derive(Debug, Drop)]
@@ -20,18 +24,91 @@ impl Lane {
     }
 }
 
-/// The first lane without a check, if there is one.
-pub(crate) fn first_idle(lanes: &[Option<u32>]) -> Option<usize>
-    ensures { result ≡ position is_idle lanes.now }
-{
-    lanes.iter().position(|lane| lane.is_none())
+/// Which check each lane has. Contracts see the list.
+#[derive(Debug, Drop)]
+pub(crate) struct Lanes {
+    /// The number of the check at each lane, where one is.
+    checks: Vec<Option<u32>>,
+    /// The highest of these numbers, so that whether some check needs a version is one comparison.
+    newest: u32,
 }
 
-/// How many lanes have no check.
-pub(crate) fn count_idle(lanes: &[Option<u32>]) -> usize
-    ensures { result ≡ count_by is_idle lanes.now }
+impl Model for Lanes {
+    ghost Value = { List (Option ℕ) };
+
+    ghost view = { λ l. l.checks.items };
+
+    ghost invariant = { λ l. l.newest ≡ newest_of l.checks.items };
+}
+
+impl Lanes {
+    /// So many lanes, all of them idle.
+    pub fn make(alloc: Global, count: u8) -> Result<Lanes, NoMemory>
+        ensures { IfOk result (λ lanes. lanes ≡ replicate count None) }
+    {
+        Ok(Lanes {
+            checks: vec![in alloc; None; count as usize]?,
+            newest: 0,
+        })
+    }
+
+    /// The check at each lane.
+    pub fn as_slice(&self) -> &[Option<u32>]
+        ensures { result.now ≡ self.now }
+    {
+        self.checks.as_slice()
+    }
+
+    /// The newest check at a lane; 0 where there is none.
+    pub fn newest(&self) -> u32
+        ensures { result ≡ newest_of self.now }
+    {
+        self.newest
+    }
+
+    /// The first idle lane, if there is one.
+    pub fn first_idle(&self) -> Option<usize>
+        ensures { result ≡ position is_idle self.now }
+    {
+        self.checks.iter().position(|lane| lane.is_none())
+    }
+
+    /// How many lanes are idle.
+    pub fn count_idle(&self) -> usize
+        ensures { result ≡ count_by is_idle self.now }
+    {
+        self.checks.iter().filter(|lane| lane.is_none()).count()
+    }
+
+    /// A check that is newer than all others takes a lane.
+    pub fn take(&mut self, index: usize, number: u32)
+        requires index { index < length self.old }
+        requires newer { newest_of self.old < number }
+        ensures { self.new ≡ slice_set self.old index (Some number) }
+    {
+        self.checks[index] = Some(number);
+        self.newest = number;
+    }
+
+    /// A check leaves its lane.
+    pub fn leave(&mut self, index: usize)
+        requires { index < length self.old }
+        ensures { self.new ≡ slice_set self.old index None }
+    {
+        self.checks[index] = None;
+        self.newest = find_newest(self.checks.as_slice());
+    }
+}
+
+/// The newest check at a lane; 0 where there is none.
+fn find_newest(lanes: &[Option<u32>]) -> u32
+    ensures { result ≡ newest_of lanes.now }
 {
-    lanes.iter().filter(|lane| lane.is_none()).count()
+    let mut newest = 0;
+    for lane in lanes {
+        newest = newest.max(lane.unwrap_or(0));
+    }
+    newest
 }
 
 /// Whether some check was launched after epoch `after` and up to epoch `upto`.

@@ -8,8 +8,6 @@ mod pools;
 mod shape_copies;
 mod snapshots;
 mod tables;
-#[cfg(test)]
-mod tests;
 
 pub use lanes::Lane;
 pub use snapshots::SnapHeap;

@@ -1,8 +1,8 @@
 //! The pool of copies: each is free, or holds the words of one old version, which several checks share.
 ghost use Rattle.std.specs.Prelude.{◌≡◌, ℕ, ◌+◌, ◌-◌, ◌<◌, ◌≤◌, ◌==◌};
-ghost use Rattle.std.specs.Prelude.{nat_lt, if◌then◌else◌, not, count_by, map, [], ◌++◌, length, filter, slice_index, vec_len, vec_capacity, IfOk};
-ghost use Rattle.std.specs.List.{Contains, list_any};
-ghost use Rattle.st_snap.specs.Lanes.{is_between};
+ghost use Rattle.std.specs.Prelude.{nat_lt, if◌then◌else◌, not, count_by, map, [], ◌++◌, length, filter, take, slice_index, vec_len, vec_capacity, IfOk, IsTrue};
+ghost use Rattle.std.specs.List.{Contains, All};
+ghost use Rattle.st_snap.specs.PoolLists.{is_version_read, AreVersionsInOrder};
 
 use crate::headers::Target;
 use crate::lanes::some_between;
@@ -49,7 +49,7 @@ impl Model for Pool {
 }
 
 impl Pool {
-    ghost use Rattle.st_snap.specs.Pool.{KeptVersion, Keeps, is_read, no_versions};
+    ghost use Rattle.st_snap.specs.Pool.{KeptVersion, Keeps, AreInOrder, is_read, no_versions};
 
     /// A pool of so many copies, all of them free.
     pub fn make(alloc: Global, copies: u32) -> Result<Pool, NoMemory>
@@ -98,13 +98,16 @@ impl Pool {
         self.words[copy as usize][field as usize]
     }
 
-    /// Gives back each copy whose version no check at a lane reads.
-    pub fn release(&mut self, lanes: &[Option<u32>])
+    /// Gives back each copy whose version no check at a lane reads, where each version that was kept before the launch of
+    /// check `since` is read. Only the others are looked at.
+    pub fn release(&mut self, lanes: &[Option<u32>], since: u32)
+        requires order { AreInOrder self.old.versions }
+        requires earlier { (kept : KeptVersion) → Contains self.old.versions kept → kept.version.upto < since → IsTrue (is_read lanes.now kept) }
         ensures versions { self.new.versions ≡ filter (is_read lanes.now) self.old.versions }
         ensures size { self.new.size ≡ self.old.size }
     {
-        free_unread(&mut self.free, self.kept.as_slice(), lanes);
-        drop_unread(&mut self.kept, lanes);
+        let start = count_earlier(self.kept.as_slice(), since);
+        give_back(&mut self.free, &mut self.kept, start, lanes);
     }
 }
 
@@ -121,30 +124,46 @@ fn all_numbers(alloc: Global, count: u32) -> Result<Vec<u32>, NoMemory>
     Ok(numbers)
 }
 
-/// Puts the number of each copy whose version no check at a lane reads to the free ones.
-fn free_unread(free: &mut Vec<u32>, kept: &[Version], lanes: &[Option<u32>])
-    requires { vec_len free.old + length kept.now ≤ vec_capacity free.old }
-    ensures items { free.new.items ≡ free.old.items ++ map (λ v. v.copy) (filter (λ v. not (list_any (is_between v.after v.upto) lanes.now)) kept.now) }
-    ensures room { vec_capacity free.new ≡ vec_capacity free.old }
+/// How many of the versions were kept before the launch of check `since`: they come first. It is as quick as the others are few.
+fn count_earlier(kept: &[Version], since: u32) -> usize
+    requires { AreVersionsInOrder kept.now }
+    ensures earlier { All (λ v. v.upto < since) (take result kept.now) }
+    ensures within { result ≤ length kept.now }
 {
-    for version in kept {
-        if !is_needed(version, lanes) {
+    let mut count = kept.len();
+    while count > 0 && kept[count - 1].upto >= since {
+        count -= 1;
+    }
+    count
+}
+
+/// Moves each version from `start` on that a check at a lane reads up to those before it, and puts the copies of the others to
+/// the free ones.
+fn give_back(free: &mut Vec<u32>, kept: &mut Vec<Version>, start: usize, lanes: &[Option<u32>])
+    requires start { start ≤ vec_len kept.old }
+    requires read { All (λ v. IsTrue (is_version_read lanes.now v)) (take start kept.old.items) }
+    requires room { vec_len free.old + vec_len kept.old ≤ vec_capacity free.old }
+    ensures free { free.new.items ≡ free.old.items ++ map (λ v. v.copy) (filter (λ v. not (is_version_read lanes.now v)) kept.old.items) }
+    ensures kept { kept.new.items ≡ filter (is_version_read lanes.now) kept.old.items }
+    ensures free_room { vec_capacity free.new ≡ vec_capacity free.old }
+    ensures kept_room { vec_capacity kept.new ≡ vec_capacity kept.old }
+{
+    let mut end = start;
+    for index in start..kept.len() {
+        let version = kept[index];
+        if is_read(&version, lanes) {
+            kept[end] = version;
+            end += 1;
+        } else {
             free.push_reserved(version.copy);
         }
     }
-}
-
-/// Leaves out each version that no check at a lane reads.
-fn drop_unread(kept: &mut Vec<Version>, lanes: &[Option<u32>])
-    ensures items { kept.new.items ≡ filter (λ v. list_any (is_between v.after v.upto) lanes.now) kept.old.items }
-    ensures room { vec_capacity kept.new ≡ vec_capacity kept.old }
-{
-    kept.retain(|version| is_needed(version, lanes));
+    kept.truncate(end);
 }
 
 /// Whether a check at a lane reads the version.
-fn is_needed(version: &Version, lanes: &[Option<u32>]) -> bool
-    ensures { result ≡ list_any (is_between version.now.after version.now.upto) lanes.now }
+fn is_read(version: &Version, lanes: &[Option<u32>]) -> bool
+    ensures { result ≡ is_version_read lanes.now version.now }
 {
     some_between(lanes, version.after, version.upto)
 }

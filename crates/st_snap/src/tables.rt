@@ -1,12 +1,13 @@
 //! What a snapshot heap keeps beside its journal: the live heap, an object's header, the lanes and the pool of copies.
-ghost use Rattle.std.specs.Prelude.{◌≡◌, ◌≢◌, ℕ, ◌+◌, ◌-◌, ◌*◌, ◌^◌, ◌<◌, ◌≤◌, length, slice_get, slice_index, Some, IfOk, IsSome};
+ghost use Rattle.std.specs.Prelude.{◌≡◌, ◌≢◌, ℕ, ◌+◌, ◌-◌, ◌*◌, ◌^◌, ◌<◌, ◌≤◌, length, slice_get, slice_index, slice_set, Some, None, IfOk, IsSome, IsTrue};
+ghost use Rattle.std.specs.List.{Contains};
 ghost use Rattle.st_events.specs.Heap.{heap_of, word_at};
 ghost use Rattle.st_events.specs.Legal.{is_word};
 ghost use Rattle.st_events.specs.Shape.{IsWithinLimits};
 ghost use Rattle.st_events.specs.Sizes.{AreWithinLimits};
 
 use crate::headers::{Forward, Header, LANES, Target};
-use crate::lanes::{Lane, first_idle, some_between};
+use crate::lanes::{Lane, Lanes};
 use crate::pools::{Pool, Words};
 use st_events::{FIRST_OF_REGIONS, HeapMap, MOST_FIELDS, NoMemory, Shape, Sizes};
 use std::alloc::Global;
@@ -22,8 +23,7 @@ pub(crate) struct Table {
     pub made: Vec<u32>,
     /// How many checks were launched.
     pub epoch: u32,
-    /// The number of the check at each lane, where one is.
-    pub lanes: Vec<Option<u32>>,
+    pub lanes: Lanes,
     pub pool: Pool,
 }
 
@@ -32,10 +32,12 @@ impl Model for Table {
 
     ghost Value = { TableLists };
 
-    ghost view = { λ t. record { heap = t.heap; headers = t.headers.items; made = t.made.items; epoch = t.epoch; lanes = t.lanes.items; pool = t.pool } };
+    ghost view = { λ t. record { heap = t.heap; headers = t.headers.items; made = t.made.items; epoch = t.epoch; lanes = t.lanes; pool = t.pool } };
 }
 
 impl Table {
+    ghost use Rattle.st_snap.specs.Lanes.{newest_of};
+    ghost use Rattle.st_snap.specs.Pool.{KeptVersion, AreInOrder, is_read};
     ghost use Rattle.st_snap.specs.Table.{IsFirst, Makes, KeepsVersion, Writes, Changes, ChangesWhere, Launches, retired_at, Reads, AreCopies, HasWords, object_room};
 
     /// Before the first event.
@@ -50,7 +52,7 @@ impl Table {
             headers: vec![in alloc; Header::UNTOUCHED; objects]?,
             made: vec![in alloc; 0; sizes.mutators as usize]?,
             epoch: 0,
-            lanes: vec![in alloc; None; sizes.lanes as usize]?,
+            lanes: Lanes::make(alloc, sizes.lanes)?,
             pool: Pool::make(alloc, sizes.copies)?,
         })
     }
@@ -105,7 +107,9 @@ impl Table {
     fn write(&mut self, obj: u32, field: u8, value: u64)
         requires cell { IsSome (word_at (heap_of self.old.heap) obj field) }
         requires header { obj < length self.old.headers }
-        ensures { Writes self.old self.new obj field value }
+        ensures writes { Writes self.old self.new obj field value }
+        ensures cell { IsSome (word_at (heap_of self.new.heap) obj field) }
+        ensures headers { length self.new.headers ≡ length self.old.headers }
     {
         self.headers[obj as usize].stamp = self.epoch;
         self.heap.set(obj, field, value);
@@ -138,7 +142,7 @@ impl Table {
         ensures headers { length self.new.headers ≡ length self.old.headers }
     {
         let stamp = self.headers[obj as usize].stamp;
-        if some_between(&self.lanes, stamp, self.epoch) {
+        if stamp < self.lanes.newest() {
             let words = words_of(&self.heap, obj);
             let target = self.pool.keep(obj, stamp, self.epoch, words);
             self.headers[obj as usize].forward_to(&self.lanes, target);
@@ -147,28 +151,33 @@ impl Table {
 
     /// Gives the next check the first idle lane, if there is one.
     pub fn launch(&mut self) -> Option<Lane>
-        requires { self.old.epoch < 2 ^ 32 - 1 }
+        requires epoch { self.old.epoch < 2 ^ 32 - 1 }
+        requires newest { newest_of self.old.lanes ≤ self.old.epoch }
         ensures { Launches self.old self.new result }
     {
-        let index = match first_idle(&self.lanes) {
+        let index = match self.lanes.first_idle() {
             Some(index) => index,
             None => return None,
         };
         self.epoch += 1;
-        self.lanes[index] = Some(self.epoch);
+        self.lanes.take(index, self.epoch);
         Some(Lane {
             number: self.epoch,
             index,
         })
     }
 
-    /// Takes a check off its lane, and gives back each copy that no other check reads.
-    pub fn retire(&mut self, index: usize)
-        requires { index < length self.old.lanes }
-        ensures { self.new ≡ retired_at self.old index }
+    /// Takes a check off its lane, and gives back each copy that no other check reads. Each version that was kept before its launch
+    /// is read by another.
+    pub fn retire(&mut self, lane: Lane)
+        requires index { lane.index < length self.old.lanes }
+        requires order { AreInOrder self.old.pool.versions }
+        requires earlier { (kept : KeptVersion) → Contains self.old.pool.versions kept → kept.version.upto < lane.number → IsTrue (is_read (slice_set self.old.lanes lane.index None) kept) }
+        ensures { self.new ≡ retired_at self.old lane.index }
     {
-        self.lanes[index] = None;
-        self.pool.release(&self.lanes);
+        let Lane { number, index } = lane;
+        self.lanes.leave(index);
+        self.pool.release(self.lanes.as_slice(), number);
     }
 
     /// The word that a check reads, unless its version is gone.
@@ -179,10 +188,9 @@ impl Table {
         requires copies { AreCopies self.now lane.now obj }
         ensures { Reads self.now lane.now obj field result }
     {
-        let live = self.heap.get(obj, field);
         let Forward { epoch, target } = self.headers[obj as usize].forward[lane.index];
         if epoch != lane.number {
-            return live;
+            return self.heap.get(obj, field);
         }
         match target {
             Target::Copied(copy) => Some(self.pool.word(copy, field)),

@@ -70,8 +70,8 @@ impl SnapHeap {
         ensures gone { HasNoLane self.new lane.number }
         ensures others { (other : Lane) → other.number ≢ lane.number → IsLaneOf self.old other → IsLaneOf self.new other }
     {
-        let Lane { number, index } = lane;
-        self.table.retire(index);
+        let number = lane.number;
+        self.table.retire(lane);
         append(&mut self.journal, Event::Retire { m, number });
     }
 }

@@ -3,7 +3,6 @@ ghost use Rattle.std.specs.Prelude.{◌≡◌, ◌-◌, ◌<◌, length};
 ghost use Rattle.st_snap.specs.Snapshots.{world_of, active_now, rows_now, event_room};
 
 use super::SnapHeap;
-use crate::lanes::count_idle;
 
 impl SnapHeap {
     /// How many copies are free.
@@ -32,6 +31,6 @@ impl SnapHeap {
     pub fn idle(&self) -> u8
         ensures { result ≡ self.now.sizes.lanes - length (active_now self.now) }
     {
-        count_idle(&self.table.lanes) as u8
+        self.table.lanes.count_idle() as u8
     }
 }

@@ -1,7 +1,7 @@
 use Rattle.std.proofs.Common.{◌≡◌, ◌<◌, ◌++◌, ◌∷◌, [], length, arith, refl, ap, ◌∙◌, length-append, length-set}
 use Rattle.st_snap.specs.declared.pools.Version.{Version}
 use Rattle.st_snap.specs.PoolLists.{kept_of}
-use Rattle.st_snap.proofs.PoolLemmas.{uses-keep, free_is_copy, free_is_unused, versions_of-keep}
+use Rattle.st_snap.proofs.PoolLemmas.{keeping_uses_as_many, free_is_copy, free_is_unused, keeping_adds_version}
 use Rattle.std.proofs.lemmas.List.{length-map}
 use Rattle.st_snap.proofs.pools.Pool.keep.Goals as goal
 
@@ -25,7 +25,7 @@ invariant_of-self-2 c =
       free_fits = omega (arith, same, c.in-Some.ensures.capacity);
       kept_fits = omega (arith, same, c.push_reserved.ensures.capacity);
       all = rw (same, pushed) (omega (arith, length-append c.self.inside.kept.items (version ∷ []), ap length taken, length-append c.pop.new.self.items (c.in-Some.copy ∷ [])));
-      once = λ k. rw (same, pushed) (uses-keep c.self.inside.free.items c.pop.new.self.items c.self.inside.kept.items version k taken ∙ c.self.invariant.once k);
+      once = λ k. rw (same, pushed) (keeping_uses_as_many c.self.inside.free.items c.pop.new.self.items c.self.inside.kept.items version k taken ∙ c.self.invariant.once k);
     }
 
 pub returns : goal.returns
@@ -36,7 +36,7 @@ returns c =
     let taken : c.self.inside.free.items ≡ c.pop.new.self.items ++ c.in-Some.copy ∷ [] = c.in-Some.ensures.items in
     let lt : c.in-Some.copy < n = free_is_copy n c.pop.new.self.items c.self.inside.kept.items c.in-Some.copy (rw taken at once) in
     let none = free_is_unused n c.pop.new.self.items c.self.inside.kept.items c.in-Some.copy (rw taken at once) in
-    let kept = versions_of-keep c.self.inside.words.items c.self.inside.kept.items version c.args.words lt none in
+    let kept = keeping_adds_version c.self.inside.words.items c.self.inside.kept.items version c.args.words lt none in
     let all = c.self.invariant.all in
     rw (← c.self.view_is) (
       omega (arith, length-map c.self.inside.kept.items (kept_of c.self.inside.words.items), all, ap length taken, length-append c.pop.new.self.items (c.in-Some.copy ∷ [])),

@@ -2,13 +2,12 @@ use Rattle.std.proofs.Common.{◌≡◌, length, ℕ, ◌+◌, ◌*◌, ◌<◌,
 use Rattle.st_events.specs.declared.events.Event.TheVariants.{New}
 use Rattle.st_events.specs.World.{world_after}
 use Rattle.st_snap.specs.Snapshots.{Snapshots, HasSpare, lanes_now, world_of}
-use Rattle.st_snap.proofs.HoldsLemmas.{holds-next, sound-now}
-use Rattle.st_snap.proofs.LegalEvents.{legal-new}
-use Rattle.st_snap.proofs.RepresentsSteps.{represents-new}
+use Rattle.st_snap.proofs.HoldsLemmas.{holds_after_event, world_is_sound}
+use Rattle.st_snap.proofs.RepresentsSteps.{new_is_represented}
 use Rattle.st_snap.proofs.TableLemmas.{made_same_lanes}
 use Rattle.st_snap.proofs.snapshots.SnapHeap.new.Goals as goal
 use Rattle.st_events.specs.Legal.{next_object}
-use Rattle.st_events.proofs.LegalEvents.{legal_new}
+use Rattle.st_events.proofs.LegalEvents.{legal_new, new_is_legal}
 
 pub invariant_of-self : goal.invariant_of-self
 invariant_of-self c =
@@ -22,11 +21,11 @@ invariant_of-self c =
     let declared = subst (λ (s : Snapshots). c.args.class < length s.shape.classes) (sym c.self.view_is) c.requires.declared in
     let made = c.self.invariant.tables.live.made c.args.m k.count k.found in
     let number : obj ≡ next_object f.sizes w c.args.m = k.number ∙ ap (λ (n : ℕ). 2 + c.args.m * f.sizes.objects + n) made in
-    let legal = legal-new f.shape f.sizes w c.args.m obj c.args.class thread number room c.requires.class declared in
-    holds-next f.shape f.sizes f.table c.make_object-obj.new.self f.journal c.append.new.journal (New c.args.m obj c.args.class) c.self.invariant spare c.append.ensures.events c.append.ensures.spare
+    let legal = new_is_legal f.shape f.sizes w c.args.m obj c.args.class (record { thread = thread; object = number; room = room; some_class = c.requires.class; declared = declared }) in
+    holds_after_event f.shape f.sizes f.table c.make_object-obj.new.self f.journal c.append.new.journal (New c.args.m obj c.args.class) c.self.invariant spare c.append.ensures.events c.append.ensures.spare
     legal
     (made_same_lanes f.shape f.sizes.objects f.table c.make_object-obj.new.self c.args.m c.args.class obj c.make_object-obj.ensures)
-    (represents-new f.shape f.sizes w f.table c.make_object-obj.new.self c.args.m obj c.args.class (sound-now f.shape f.sizes f.table f.journal c.self.invariant) (legal_new f.shape f.sizes w c.args.m obj c.args.class legal) c.self.invariant.tables c.make_object-obj.ensures)
+    (new_is_represented f.shape f.sizes w f.table c.make_object-obj.new.self c.args.m obj c.args.class (world_is_sound f.shape f.sizes f.table f.journal c.self.invariant) (legal_new f.shape f.sizes w c.args.m obj c.args.class legal) c.self.invariant.tables c.make_object-obj.ensures)
 
 pub returns-clause-legal : goal.returns-clause-legal
 returns-clause-legal c = (invariant_of-self c).legal

@@ -4,7 +4,7 @@ use Rattle.st_events.specs.World.{world_after}
 use Rattle.st_snap.specs.Snapshots.{Snapshots}
 use Rattle.st_snap.specs.Table.{TableLists}
 use Rattle.st_snap.specs.declared.lanes.Lane.{Lane}
-use Rattle.st_snap.proofs.HoldsLemmas.{sound-now, lane-here, launch-known}
+use Rattle.st_snap.proofs.HoldsLemmas.{world_is_sound, lane_in_table, launch_is_known}
 use Rattle.st_snap.proofs.snapshots.SnapHeap.read.Goals as goal
 use Rattle.st_snap.specs.Table.{Reads}
 use Rattle.st_snap.specs.Holds.{Holds}
@@ -12,7 +12,7 @@ use Rattle.st_snap.specs.Snapshots.{IsLaneOf, word_at_launch, is_lost_for}
 use Rattle.st_events.specs.declared.limits.Sizes.{Sizes}
 use Rattle.st_events.specs.Shape.{ShapeLists}
 use Rattle.st_events.specs.Journal.{Written}
-use Rattle.st_snap.proofs.ReadLemmas.{read-answer, sent-to-copies, still-there, has-place, object-of-cell, small-pasts, small-field}
+use Rattle.st_snap.proofs.ReadLemmas.{read_is_right, sent_to_copies, object_is_still_there, object_has_place, cell_has_object, pasts_are_small, field_is_small}
 
 -- what the fields show of the lane and the cell
 lane-in : (c : goal.After-self) → IsLaneOf (record { shape = c.self.inside.shape; sizes = c.self.inside.sizes; journal = c.self.inside.journal.events }) c.args.lane.now
@@ -24,31 +24,31 @@ cell-in c = subst (λ (s : Snapshots). IsSome (word_at_launch s c.args.lane.now.
 pub read-requires-clause-header : goal.read-requires-clause-header
 read-requires-clause-header c =
     let f = c.self.inside in
-    let known = launch-known f.shape f.sizes f.journal.events c.args.lane.now.number c.args.obj c.args.field (cell-in c) in
+    let known = launch_is_known f.shape f.sizes f.journal.events c.args.lane.now.number c.args.obj c.args.field (cell-in c) in
     let cell : IsSome (word_at known.0.past c.args.obj c.args.field) = rw (← known.2) (cell-in c) in
-    let now = still-there f.shape f.sizes (world_after f.shape f.sizes f.journal.events) c.args.obj c.args.lane.now.number known.0 (sound-now f.shape f.sizes f.table f.journal c.self.invariant) known.1 (object-of-cell known.0.past c.args.obj c.args.field cell) in
-    omega (arith, has-place f.table.heap c.args.obj (subst (λ (h : Heap). IsSome (h c.args.obj)) (sym c.self.invariant.tables.live.heap) now), c.self.invariant.tables.live.room, c.self.invariant.tables.live.header_room)
+    let now = object_is_still_there f.shape f.sizes (world_after f.shape f.sizes f.journal.events) c.args.obj c.args.lane.now.number known.0 (world_is_sound f.shape f.sizes f.table f.journal c.self.invariant) known.1 (cell_has_object known.0.past c.args.obj c.args.field cell) in
+    omega (arith, object_has_place f.table.heap c.args.obj (subst (λ (h : Heap). IsSome (h c.args.obj)) (sym c.self.invariant.tables.live.heap) now), c.self.invariant.tables.live.room, c.self.invariant.tables.live.header_room)
 
 pub read-requires-clause-field : goal.read-requires-clause-field
 read-requires-clause-field c =
     let f = c.self.inside in
-    let known = launch-known f.shape f.sizes f.journal.events c.args.lane.now.number c.args.obj c.args.field (cell-in c) in
-    small-field known.0.past c.args.obj c.args.field (small-pasts f.shape f.sizes f.journal.events c.self.invariant.shape_fits c.self.invariant.legal c.args.lane.now.number known.0 known.1) (rw (← known.2) (cell-in c))
+    let known = launch_is_known f.shape f.sizes f.journal.events c.args.lane.now.number c.args.obj c.args.field (cell-in c) in
+    field_is_small known.0.past c.args.obj c.args.field (pasts_are_small f.shape f.sizes f.journal.events c.self.invariant.shape_fits c.self.invariant.legal c.args.lane.now.number known.0 known.1) (rw (← known.2) (cell-in c))
 
 pub read-requires-clause-copies : goal.read-requires-clause-copies
 read-requires-clause-copies c =
     let f = c.self.inside in
-    let known = launch-known f.shape f.sizes f.journal.events c.args.lane.now.number c.args.obj c.args.field (cell-in c) in
+    let known = launch_is_known f.shape f.sizes f.journal.events c.args.lane.now.number c.args.obj c.args.field (cell-in c) in
     let cell : IsSome (word_at known.0.past c.args.obj c.args.field) = rw (← known.2) (cell-in c) in
-    sent-to-copies f.sizes (world_after f.shape f.sizes f.journal.events) f.table c.args.lane.now known.0 c.args.obj c.self.invariant.tables (lane-here f.shape f.sizes f.table f.journal c.args.lane.now c.self.invariant (lane-in c)) known.1 (object-of-cell known.0.past c.args.obj c.args.field cell)
+    sent_to_copies f.sizes (world_after f.shape f.sizes f.journal.events) f.table c.args.lane.now known.0 c.args.obj c.self.invariant.tables (lane_in_table f.shape f.sizes f.table f.journal c.args.lane.now c.self.invariant (lane-in c)) known.1 (cell_has_object known.0.past c.args.obj c.args.field cell)
 
 -- the answer of the tables is right
 right : (shape : ShapeLists) (sizes : Sizes) (t : TableLists) (journal : Written) (s : Snapshots) (lane : Lane) (obj field : ℕ) (answer : Option ℕ) → Holds shape sizes t journal → record { shape = shape; sizes = sizes; journal = journal.events } ≡ s → IsLaneOf s lane → IsSome (word_at_launch s lane.number obj field) → Reads t lane obj field answer → ((answer ≡ word_at_launch s lane.number obj field) × (is_lost_for s obj lane.number ≡ false)) ⊎ ((answer ≡ None) × (is_lost_for s obj lane.number ≡ true))
 right shape sizes t journal s lane obj field answer h view is cell reads =
-    let here = lane-here shape sizes t journal lane h (subst (λ (x : Snapshots). IsLaneOf x lane) (sym view) is) in
+    let here = lane_in_table shape sizes t journal lane h (subst (λ (x : Snapshots). IsLaneOf x lane) (sym view) is) in
     let there = subst (λ (x : Snapshots). IsSome (word_at_launch x lane.number obj field)) (sym view) cell in
-    let known = launch-known shape sizes journal.events lane.number obj field there in
-    let a = read-answer shape sizes (world_after shape sizes journal.events) t lane known.0 obj field answer (sound-now shape sizes t journal h) h.tables here known.1 (rw (← known.2) there) reads in
+    let known = launch_is_known shape sizes journal.events lane.number obj field there in
+    let a = read_is_right shape sizes (world_after shape sizes journal.events) t lane known.0 obj field answer (world_is_sound shape sizes t journal h) h.tables here known.1 (rw (← known.2) there) reads in
     elim a.cases [
       | inl y ↦ inl (y.0 ∙ sym known.2 ∙ ap (λ (x : Snapshots). word_at_launch x lane.number obj field) view, ap (λ (x : Snapshots). is_lost_for x obj lane.number) (sym view) ∙ y.1)
       | inr n ↦ inr (n.0, ap (λ (x : Snapshots). is_lost_for x obj lane.number) (sym view) ∙ n.1)

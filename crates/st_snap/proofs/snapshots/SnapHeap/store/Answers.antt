@@ -3,19 +3,19 @@ use Rattle.st_events.specs.declared.events.Event.TheVariants.{Store}
 use Rattle.st_events.specs.Heap.{Heap, word_at}
 use Rattle.st_events.specs.World.{world_after}
 use Rattle.st_snap.specs.Snapshots.{Snapshots, HasSpare, heap_now, lanes_now, has_kind_of}
-use Rattle.st_snap.proofs.HoldsLemmas.{holds-next, sound-now, cell-has-header, cell-is-small}
-use Rattle.st_snap.proofs.LegalEvents.{legal-store}
-use Rattle.st_snap.proofs.RepresentsChange.{represents-change}
+use Rattle.st_snap.proofs.HoldsLemmas.{holds_after_event, world_is_sound, cell_has_header, cell_is_small}
+use Rattle.st_events.proofs.LegalEvents.{store_is_legal}
+use Rattle.st_snap.proofs.RepresentsChange.{change_is_represented}
 use Rattle.st_snap.proofs.TableLemmas.{changed_same_lanes}
 use Rattle.st_snap.proofs.snapshots.SnapHeap.store.Goals as goal
 
 pub change-requires-clause-small : goal.change-requires-clause-small
-change-requires-clause-small c = λ field some. cell-is-small c.self.inside.shape c.self.inside.sizes c.self.inside.table c.self.inside.journal c.args.obj field c.self.invariant some
+change-requires-clause-small c = λ field some. cell_is_small c.self.inside.shape c.self.inside.sizes c.self.inside.table c.self.inside.journal c.args.obj field c.self.invariant some
 
 pub change-requires-clause-header : goal.change-requires-clause-header
 change-requires-clause-header c =
     let cell = subst (λ (s : Snapshots). IsSome (word_at (heap_now s) c.args.obj c.args.field)) (sym c.self.view_is) c.requires.cell in
-    cell-has-header c.self.inside.shape c.self.inside.sizes c.self.inside.table c.self.inside.journal c.args.obj c.args.field c.self.invariant (subst (λ (heap : Heap). IsSome (word_at heap c.args.obj c.args.field)) (sym c.self.invariant.tables.live.heap) cell)
+    cell_has_header c.self.inside.shape c.self.inside.sizes c.self.inside.table c.self.inside.journal c.args.obj c.args.field c.self.invariant (subst (λ (heap : Heap). IsSome (word_at heap c.args.obj c.args.field)) (sym c.self.invariant.tables.live.heap) cell)
 
 pub invariant_of-self : goal.invariant_of-self
 invariant_of-self c =
@@ -25,10 +25,10 @@ invariant_of-self c =
     let thread : c.args.m < f.sizes.mutators = subst (λ (s : Snapshots). c.args.m < s.sizes.mutators) (sym c.self.view_is) c.requires.thread in
     let cell = subst (λ (s : Snapshots). IsSome (word_at (heap_now s) c.args.obj c.args.field)) (sym c.self.view_is) c.requires.cell in
     let kind = subst (λ (s : Snapshots). has_kind_of s c.args.obj c.args.field c.args.value ≡ true) (sym c.self.view_is) c.requires.kind in
-    holds-next f.shape f.sizes f.table c.change.new.self f.journal c.append.new.journal (Store c.args.m c.args.obj c.args.field c.args.value) c.self.invariant spare c.append.ensures.events c.append.ensures.spare
-    (legal-store f.shape f.sizes w c.args.m c.args.obj c.args.field c.args.value thread cell kind)
+    holds_after_event f.shape f.sizes f.table c.change.new.self f.journal c.append.new.journal (Store c.args.m c.args.obj c.args.field c.args.value) c.self.invariant spare c.append.ensures.events c.append.ensures.spare
+    (store_is_legal f.shape f.sizes w c.args.m c.args.obj c.args.field c.args.value (record { thread = thread; cell = cell; kind = kind }))
     (changed_same_lanes f.table c.change.new.self c.args.obj c.args.field c.args.value c.change.ensures)
-    (represents-change f.shape f.sizes w f.table c.change.new.self c.args.obj c.args.field c.args.value (sound-now f.shape f.sizes f.table f.journal c.self.invariant) c.self.invariant.tables c.change.ensures)
+    (change_is_represented f.shape f.sizes w f.table c.change.new.self c.args.obj c.args.field c.args.value (world_is_sound f.shape f.sizes f.table f.journal c.self.invariant) c.self.invariant.tables c.change.ensures)
 
 pub returns-clause-legal : goal.returns-clause-legal
 returns-clause-legal c = (invariant_of-self c).legal

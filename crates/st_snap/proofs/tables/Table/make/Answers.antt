@@ -3,7 +3,7 @@ use Rattle.st_snap.specs.declared.headers.Header.{Header}
 use Rattle.st_snap.specs.declared.headers.Forward.{Forward}
 use Rattle.st_snap.specs.declared.headers.Target.TheVariants.{Gone}
 use Rattle.st_snap.specs.Table.{object_room}
-use Rattle.st_snap.proofs.ListLemmas.{slice_get-replicate}
+use Rattle.st_snap.proofs.ListLemmas.{replicated_is_one}
 use Rattle.st_snap.proofs.tables.Table.make.Goals as goal
 
 pub returns : goal.returns
@@ -12,15 +12,15 @@ returns c =
     let never : Forward = record { epoch = 0; target = Gone } in
     let untouched : Header = record { stamp = 0; forward = replicate 8 never } in
     let all : c.in_ok-vec.field-0.items ≡ replicate n untouched = search rules in
-    let header : (obj : ℕ) (h : Header) → slice_get c.in_ok-vec.field-0.items obj ≡ Some h → h ≡ untouched = λ obj h e. slice_get-replicate n untouched obj h (ap (λ hs. slice_get hs obj) (sym all) ∙ e) in
+    let header : (obj : ℕ) (h : Header) → slice_get c.in_ok-vec.field-0.items obj ≡ Some h → h ≡ untouched = λ obj h e. replicated_is_one n untouched obj h (ap (λ hs. slice_get hs obj) (sym all) ∙ e) in
     record {
       heap = c.in_ok-make.ensures.first;
       room = c.in_ok-make.ensures.room;
       header_room = omega (arith, c.in_ok-vec.ensures.len, c.in_ok-vec.field-0.ok.0);
       headers = λ obj h e. ap (λ (x : Header). x.stamp) (header obj h e);
-      forward = λ obj lane h f e g. ap (λ (x : Forward). x.epoch) (slice_get-replicate 8 never lane f (ap (λ (x : Header). slice_get x.forward lane) (sym (header obj h e)) ∙ g));
+      forward = λ obj lane h f e g. ap (λ (x : Forward). x.epoch) (replicated_is_one 8 never lane f (ap (λ (x : Header). slice_get x.forward lane) (sym (header obj h e)) ∙ g));
       made = search rules;
       epoch = refl;
-      lanes = search rules;
-      pool = c.in_ok-make-2.ensures;
+      lanes = c.in_ok-make-2.ensures;
+      pool = c.in_ok-make-3.ensures;
     }
