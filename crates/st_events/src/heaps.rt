@@ -1,5 +1,5 @@
 //! A heap in memory: the objects of every mutator's region in one vector, by number.
-ghost use Rattle.std.specs.Prelude.{◌≡◌, ◌+◌, ◌*◌, ◌<◌, ◌≤◌, length, IfOk, IsSome};
+ghost use Rattle.std.specs.Prelude.{◌≡◌, ◌+◌, ◌*◌, ◌<◌, ◌≤◌, ℕ, length, slice_index, IfOk, IsSome, Some};
 ghost use Rattle.st_events.specs.Heap.{heap_of, word_at, class_at, with_object, with_word, fresh, first_heap};
 ghost use Rattle.st_events.specs.Legal.{is_of_class};
 ghost use Rattle.st_events.specs.Shape.{IsWithinLimits};
@@ -85,6 +85,16 @@ impl HeapMap {
     {
         let cell = self.cells.get(obj as usize)?;
         cell.word(field)
+    }
+
+    /// The words of an object that exists, in the order of its fields. What stands past them means nothing.
+    pub fn words(&self, obj: u32) -> [u64; MOST_FIELDS]
+        ensures { (field word : ℕ) → word_at (heap_of self.now) obj field ≡ Some word → slice_index result field ≡ word }
+    {
+        match self.cells.get(obj as usize) {
+            Some(cell) => cell.words,
+            None => [0; MOST_FIELDS],
+        }
     }
 
     /// The class of an object; None exactly where the object does not exist.
