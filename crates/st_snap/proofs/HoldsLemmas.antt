@@ -7,8 +7,7 @@ use Rattle.st_events.specs.Journal.{Written}
 use Rattle.st_events.specs.Shape.{ShapeLists, IsWithinLimits}
 use Rattle.st_events.specs.Sizes.{AreWithinLimits}
 use Rattle.st_events.specs.declared.events.Event.TheVariants.{New, Load, Store, Cas, Launch, Retire}
-use Rattle.st_events.specs.declared.shapes.TheConstants.{MOST_FIELDS}
-use Rattle.st_events.specs.Heap.{Heap, heap_of, word_at}
+use Rattle.st_events.specs.Heap.{heap_of, word_at}
 use Rattle.st_events.specs.World.{World, Launched, next, world_from, world_after, first_world}
 use Rattle.st_events.specs.Legal.{IsLegal, IsLegalNext}
 use Rattle.st_events.specs.Sound.{IsSoundWorld}
@@ -22,7 +21,7 @@ use Rattle.st_snap.specs.Table.{TableLists, IsFirst, ChangesWhere}
 use Rattle.st_snap.specs.Represents.{Represents}
 use Rattle.st_snap.specs.Holds.{Holds}
 use Rattle.st_snap.proofs.LaneLemmas.{newest_up_to}
-use Rattle.st_snap.proofs.ReadLemmas.{IsSmall, typed_is_small, field_is_small, object_has_place, cell_has_object}
+use Rattle.st_snap.proofs.ReadLemmas.{object_has_place, cell_has_object}
 use Rattle.st_snap.proofs.RepresentsSteps.{first_is_represented}
 use Rattle.st_snap.proofs.RepresentsChange.{change_is_represented}
 use Rattle.st_snap.proofs.TableLemmas.{changed_same_lanes}
@@ -93,9 +92,6 @@ newest_is_up_to_epoch shape sizes t journal h = newest_up_to t.lanes t.epoch (λ
 -- what a change of a cell asks of the tables
 pub cell_has_header : (shape : ShapeLists) (sizes : Sizes) (t : TableLists) (journal : Written) (obj field : ℕ) → Holds shape sizes t journal → IsSome (word_at (heap_of t.heap) obj field) → obj < length t.headers
 cell_has_header shape sizes t journal obj field h some = omega (arith, object_has_place t.heap obj (cell_has_object (heap_of t.heap) obj field some), h.tables.live.room, h.tables.live.header_room)
-
-pub cell_is_small : (shape : ShapeLists) (sizes : Sizes) (t : TableLists) (journal : Written) (obj field : ℕ) → Holds shape sizes t journal → IsSome (word_at (heap_of t.heap) obj field) → field < MOST_FIELDS
-cell_is_small shape sizes t journal obj field h some = field_is_small (heap_of t.heap) obj field (subst (λ (heap : Heap). IsSmall heap) (sym h.tables.live.heap) (typed_is_small shape (world_after shape sizes journal.events).heap h.shape_fits (world_is_sound shape sizes t journal h).typed)) some
 
 -- a Cas, done or not
 pub cas_is_represented : (shape : ShapeLists) (sizes : Sizes) (w : World) (t t' : TableLists) (m obj field expect value : ℕ) (done : Bool) → IsSoundWorld shape sizes w → Represents sizes w t → ChangesWhere done t t' obj field value → Represents sizes (next shape sizes w (Cas m obj field expect value done)) t'

@@ -8,7 +8,7 @@ ghost use Rattle.st_events.specs.Sizes.{AreWithinLimits};
 
 use crate::headers::{Forward, Header, LANES, Target};
 use crate::lanes::{Lane, Lanes};
-use crate::pools::{Pool, Words};
+use crate::pools::Pool;
 use st_events::{FIRST_OF_REGIONS, HeapMap, MOST_FIELDS, NoMemory, Shape, Sizes};
 use std::alloc::Global;
 use std::marker::Model;
@@ -94,7 +94,6 @@ impl Table {
     #[tactic(auto, using(crate::proofs::TableLemmas::kept_cell, crate::proofs::TableLemmas::changes))]
     pub fn change(&mut self, obj: u32, field: u8, value: u64)
         requires cell { IsSome (word_at (heap_of self.old.heap) obj field) }
-        requires small { (f : ℕ) → IsSome (word_at (heap_of self.old.heap) obj f) → f < MOST_FIELDS }
         requires header { obj < length self.old.headers }
         requires lanes { length self.old.lanes ≤ LANES }
         ensures { Changes self.old self.new obj field value }
@@ -118,7 +117,6 @@ impl Table {
     /// Sets a word where it is `expect`, and tells whether it was.
     pub fn change_where(&mut self, obj: u32, field: u8, expect: u64, value: u64) -> bool
         requires cell { IsSome (word_at (heap_of self.old.heap) obj field) }
-        requires small { (f : ℕ) → IsSome (word_at (heap_of self.old.heap) obj f) → f < MOST_FIELDS }
         requires header { obj < length self.old.headers }
         requires lanes { length self.old.lanes ≤ LANES }
         ensures done { result ≡ is_word (word_at (heap_of self.old.heap) obj field) expect }
@@ -135,7 +133,6 @@ impl Table {
     /// them, and sends these checks to it. The forwarding words come before the change of the field, so that no check
     /// reads a new word.
     fn keep_version(&mut self, obj: u32)
-        requires small { (f : ℕ) → IsSome (word_at (heap_of self.old.heap) obj f) → f < MOST_FIELDS }
         requires header { obj < length self.old.headers }
         requires lanes { length self.old.lanes ≤ LANES }
         ensures version { KeepsVersion self.old self.new obj }
@@ -143,7 +140,7 @@ impl Table {
     {
         let stamp = self.headers[obj as usize].stamp;
         if stamp < self.lanes.newest() {
-            let words = words_of(&self.heap, obj);
+            let words = self.heap.words(obj);
             let target = self.pool.keep(obj, stamp, self.epoch, words);
             self.headers[obj as usize].forward_to(&self.lanes, target);
         }
@@ -197,16 +194,4 @@ impl Table {
             Target::Gone => None,
         }
     }
-}
-
-/// The words of an object as they stand.
-fn words_of(heap: &HeapMap, obj: u32) -> Words
-    requires { (f : ℕ) → IsSome (word_at (heap_of heap.now) obj f) → f < MOST_FIELDS }
-    ensures { (field word : ℕ) → word_at (heap_of heap.now) obj field ≡ Some word → slice_index result field ≡ word }
-{
-    let mut words = [0; MOST_FIELDS];
-    for field in 0..MOST_FIELDS {
-        words[field] = heap.get(obj, field as u8).unwrap_or(0);
-    }
-    words
 }

@@ -4,12 +4,9 @@ use Rattle.st_events.specs.Heap.{Heap, word_at}
 use Rattle.st_events.specs.World.{world_after}
 use Rattle.st_events.specs.Legal.{is_word}
 use Rattle.st_snap.specs.Snapshots.{Snapshots, HasSpare, heap_now, lanes_now, has_kind_of}
-use Rattle.st_snap.proofs.HoldsLemmas.{holds_after_event, world_is_sound, cell_has_header, cell_is_small, cas_is_represented, cas_keeps_lanes}
+use Rattle.st_snap.proofs.HoldsLemmas.{holds_after_event, world_is_sound, cell_has_header, cas_is_represented, cas_keeps_lanes}
 use Rattle.st_events.proofs.LegalEvents.{cas_is_legal}
 use Rattle.st_snap.proofs.snapshots.SnapHeap.cas.Goals as goal
-
-pub change_where-done-requires-clause-small : goal.change_where-done-requires-clause-small
-change_where-done-requires-clause-small c = λ field some. cell_is_small c.self.inside.shape c.self.inside.sizes c.self.inside.table c.self.inside.journal c.args.obj field c.self.invariant some
 
 pub change_where-done-requires-clause-header : goal.change_where-done-requires-clause-header
 change_where-done-requires-clause-header c =

@@ -3,14 +3,11 @@ use Rattle.st_events.specs.declared.events.Event.TheVariants.{Store}
 use Rattle.st_events.specs.Heap.{Heap, word_at}
 use Rattle.st_events.specs.World.{world_after}
 use Rattle.st_snap.specs.Snapshots.{Snapshots, HasSpare, heap_now, lanes_now, has_kind_of}
-use Rattle.st_snap.proofs.HoldsLemmas.{holds_after_event, world_is_sound, cell_has_header, cell_is_small}
+use Rattle.st_snap.proofs.HoldsLemmas.{holds_after_event, world_is_sound, cell_has_header}
 use Rattle.st_events.proofs.LegalEvents.{store_is_legal}
 use Rattle.st_snap.proofs.RepresentsChange.{change_is_represented}
 use Rattle.st_snap.proofs.TableLemmas.{changed_same_lanes}
 use Rattle.st_snap.proofs.snapshots.SnapHeap.store.Goals as goal
-
-pub change-requires-clause-small : goal.change-requires-clause-small
-change-requires-clause-small c = λ field some. cell_is_small c.self.inside.shape c.self.inside.sizes c.self.inside.table c.self.inside.journal c.args.obj field c.self.invariant some
 
 pub change-requires-clause-header : goal.change-requires-clause-header
 change-requires-clause-header c =

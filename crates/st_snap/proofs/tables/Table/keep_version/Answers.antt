@@ -16,8 +16,8 @@ returns-then-stamp-newest-clause-version c =
       cases = inl (record {
         needed = omega (arith, c.if-stamp-newest.true, c.newest.ensures);
         target = c.keep-target.result;
-        words = c.words_of-words.result;
-        has = c.words_of-words.ensures;
+        words = c.words-words.result;
+        has = c.words-words.ensures;
         kept = c.keep-target.ensures;
         rest = rw (changed, put) refl;
       });
