@@ -1,5 +1,6 @@
 -- Tests over lists: some element that passes, and what passes
-use Rattle.std.proofs.Common.{◌≡◌, ℕ, zero, suc, ◌+◌, ◌==◌, cond, not, Bool, true, false, inl, inr, List, [], ◌∷◌, length, slice_get, Some, refl, sym, ◌∙◌, ap, arith, filter}
+use Rattle.std.proofs.Common.{◌≡◌, ℕ, zero, suc, ◌+◌, ◌==◌, cond, not, Bool, true, false, inl, inr, List, [], ◌∷◌, length, slice_get, Some, refl}
+use Rattle.std.proofs.Common.{sym, ◌∙◌, ap, arith, filter}
 use Rattle.std.specs.Prelude.{◌||◌}
 use Rattle.std.specs.List.{list_any}
 use Rattle.std.proofs.lemmas.Bool.Decides.{eqb_tells}
@@ -35,6 +36,7 @@ among_any p (x ∷ xs) n h t = elim (or_cases (x == n) (is_among xs n) h) [
   | inr r ↦ or_second (p x) (list_any p xs) (among_any p xs n r t)
 ]
 
+-- where some number passes, one of the list does
 pub any_among : (p : ℕ → Bool) (ns : List ℕ) → list_any p ns ≡ true → (n : ℕ) × (is_among ns n ≡ true) × (p n ≡ true)
 any_among p [] h = cc
 any_among p (x ∷ xs) h = elim (or_cases (p x) (list_any p xs) h) [
@@ -57,11 +59,18 @@ none_passes p (x ∷ xs) h = cases (p x) (list_any p xs) h (none_passes p xs)
     cases false c e f = f e
 
 -- a row stands where some check needs it
-pub needed_row_stands : (obj : ℕ) (p : ℕ → Bool) (ns : List ℕ) → list_any p ns ≡ true → row_if_needed obj (filter p ns) ≡ record { obj = obj; checks = filter p ns } ∷ []
+pub needed_row_stands :
+    (obj : ℕ) (p : ℕ → Bool) (ns : List ℕ)
+    → list_any p ns ≡ true
+    → row_if_needed obj (filter p ns) ≡ record { obj = obj; checks = filter p ns } ∷ []
 needed_row_stands obj p [] h = cc
 needed_row_stands obj p (x ∷ xs) h = cases (p x) h (needed_row_stands obj p xs)
   where
-    cases : (b : Bool) → (b || list_any p xs) ≡ true → (list_any p xs ≡ true → row_if_needed obj (filter p xs) ≡ record { obj = obj; checks = filter p xs } ∷ []) → row_if_needed obj (cond b (x ∷ filter p xs) (filter p xs)) ≡ record { obj = obj; checks = cond b (x ∷ filter p xs) (filter p xs) } ∷ []
+    cases :
+        (b : Bool)
+        → (b || list_any p xs) ≡ true
+        → (list_any p xs ≡ true → row_if_needed obj (filter p xs) ≡ record { obj = obj; checks = filter p xs } ∷ [])
+        → row_if_needed obj (cond b (x ∷ filter p xs) (filter p xs)) ≡ record { obj = obj; checks = cond b (x ∷ filter p xs) (filter p xs) } ∷ []
     cases true e f = refl
     cases false e f = f e
 
@@ -70,7 +79,13 @@ pub filters_swap : (p q : ℕ → Bool) (ns : List ℕ) → filter p (filter q n
 filters_swap p q [] = refl
 filters_swap p q (x ∷ xs) = cases (p x) refl (q x) refl (filters_swap p q xs)
   where
-    cases : (b : Bool) → p x ≡ b → (c : Bool) → q x ≡ c → filter p (filter q xs) ≡ filter q (filter p xs) → filter p (cond c (x ∷ filter q xs) (filter q xs)) ≡ filter q (cond b (x ∷ filter p xs) (filter p xs))
+    cases :
+        (b : Bool)
+        → p x ≡ b
+        → (c : Bool)
+        → q x ≡ c
+        → filter p (filter q xs) ≡ filter q (filter p xs)
+        → filter p (cond c (x ∷ filter q xs) (filter q xs)) ≡ filter q (cond b (x ∷ filter p xs) (filter p xs))
     cases true e true f r = rw (e, f, r) refl
     cases true e false f r = rw (f, r) refl
     cases false e true f r = rw (e, r) refl

@@ -11,13 +11,22 @@ forward_none stamp target [] = refl
 forward_none stamp target (f ∷ fs) = refl
 
 -- one lane more
-forward_more : (stamp : ℕ) (target : Target) (lanes : List (Option ℕ)) (fs : List Forward) (i : ℕ) (d : Forward) → i < length lanes → set (forward_all stamp target (take i lanes) fs) i (forward_one stamp target (get_or lanes i None) (get_or (forward_all stamp target (take i lanes) fs) i d)) ≡ forward_all stamp target (take (suc i) lanes) fs
+forward_more :
+    (stamp : ℕ) (target : Target) (lanes : List (Option ℕ)) (fs : List Forward) (i : ℕ) (d : Forward)
+    → i < length lanes
+    → set (forward_all stamp target (take i lanes) fs) i
+    (forward_one stamp target (get_or lanes i None) (get_or (forward_all stamp target (take i lanes) fs) i d)) ≡ forward_all stamp target (take (suc i) lanes) fs
 forward_more stamp target [] fs i d h = absurd (omega arith)
 forward_more stamp target (l ∷ lanes) [] i d h = refl
 forward_more stamp target (l ∷ lanes) (g ∷ fs) zero d h = ap (λ xs. forward_one stamp target l g ∷ xs) (sym (forward_none stamp target fs))
 forward_more stamp target (l ∷ lanes) (g ∷ fs) (suc i) d h = ap (λ xs. forward_one stamp target l g ∷ xs) (forward_more stamp target lanes fs i d (omega arith))
 
-pub forward_next : (stamp : ℕ) (target : Target) (lanes : List (Option ℕ)) (fs : List Forward) (i : ℕ) (d : Forward) → i < length lanes → set (forward_all stamp target (take i lanes) fs) i (forward_one stamp target (get_or lanes i None) (get_or (forward_all stamp target (take i lanes) fs) i d)) ≡ forward_all stamp target (take (i + 1) lanes) fs
+-- the same, with the next index as the code has it
+pub forward_next :
+    (stamp : ℕ) (target : Target) (lanes : List (Option ℕ)) (fs : List Forward) (i : ℕ) (d : Forward)
+    → i < length lanes
+    → set (forward_all stamp target (take i lanes) fs) i
+    (forward_one stamp target (get_or lanes i None) (get_or (forward_all stamp target (take i lanes) fs) i d)) ≡ forward_all stamp target (take (i + 1) lanes) fs
 forward_next stamp target lanes fs i d h = rw add-one (forward_more stamp target lanes fs i d h)
 
 -- two headers of the same parts

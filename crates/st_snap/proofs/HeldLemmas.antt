@@ -18,7 +18,12 @@ abbrev pub seen_of : ShapeLists → Sizes → Written → Snapshots
 seen_of shape sizes journal = record { shape = shape; sizes = sizes; journal = journal.events }
 
 -- the number after the epoch is at no lane
-pub next_has_no_lane : (shape : ShapeLists) (sizes : Sizes) (t : TableLists) (journal : Written) (s : Snapshots) (number : ℕ) → Holds shape sizes t journal → seen_of shape sizes journal ≡ s → number ≡ (world_after shape sizes journal.events).epoch + 1 → HasNoLane s number
+pub next_has_no_lane :
+    (shape : ShapeLists) (sizes : Sizes) (t : TableLists) (journal : Written) (s : Snapshots) (number : ℕ)
+    → Holds shape sizes t journal
+    → seen_of shape sizes journal ≡ s
+    → number ≡ (world_after shape sizes journal.events).epoch + 1
+    → HasNoLane s number
 next_has_no_lane shape sizes t journal s number h view next = subst (λ (x : Snapshots). HasNoLane x number) view fresh
   where
     fresh : HasNoLane (seen_of shape sizes journal) number
@@ -28,7 +33,11 @@ next_has_no_lane shape sizes t journal s number h view next = subst (λ (x : Sna
         omega (arith, launched.1, same, next)
 
 -- a retired check is at no lane
-pub retired_has_no_lane : (shape : ShapeLists) (sizes : Sizes) (t : TableLists) (journal : Written) (before : List Event) (m number : ℕ) → Holds shape sizes t journal → journal.events ≡ before ++ Retire m number ∷ [] → HasNoLane (seen_of shape sizes journal) number
+pub retired_has_no_lane :
+    (shape : ShapeLists) (sizes : Sizes) (t : TableLists) (journal : Written) (before : List Event) (m number : ℕ)
+    → Holds shape sizes t journal
+    → journal.events ≡ before ++ Retire m number ∷ []
+    → HasNoLane (seen_of shape sizes journal) number
 retired_has_no_lane shape sizes t journal before m number h more = λ other is same.
     let active = h.tables.lanes.are_active other.index other.number (lane_in_table shape sizes t journal other h is) in
     let same_world = ap (world_after shape sizes) more ∙ world_after_one_more shape sizes before (Retire m number) in

@@ -3,6 +3,7 @@ use Rattle.std.proofs.Common.{◌≡◌, ◌≢◌, ℕ, zero, suc, ◌<◌, Lis
 use Rattle.std.specs.Option.{option_map}
 use Rattle.st_snap.specs.Table.{adjust}
 
+-- each element of a list of one element is that one
 pub replicated_is_one : {X : Type 0} (n : ℕ) (x : X) (k : ℕ) (y : X) → slice_get (replicate n x) k ≡ Some y → y ≡ x
 replicated_is_one zero x k y e = cc
 replicated_is_one (suc n) x zero y e = cc
@@ -14,6 +15,7 @@ set_is_adjusted f [] i x h e = absurd (omega arith)
 set_is_adjusted f (y ∷ ys) zero x h e = ap (λ z. f z ∷ ys) e
 set_is_adjusted f (y ∷ ys) (suc i) x h e = ap (λ zs. y ∷ zs) (set_is_adjusted f ys i x (omega arith) e)
 
+-- a list with one element changed is as long
 pub adjusting_keeps_length : {X : Type 0} (f : X → X) (xs : List X) (i : ℕ) → length (adjust f xs i) ≡ length xs
 adjusting_keeps_length f [] i = refl
 adjusting_keeps_length f (x ∷ xs) zero = refl
@@ -27,6 +29,7 @@ adjusted_elsewhere f (x ∷ xs) zero (suc k) ne = refl
 adjusted_elsewhere f (x ∷ xs) (suc i) zero ne = refl
 adjusted_elsewhere f (x ∷ xs) (suc i) (suc k) ne = adjusted_elsewhere f xs i k (λ e. ne (ap suc e))
 
+-- the element that is changed
 pub adjusted_here : {X : Type 0} (f : X → X) (xs : List X) (i : ℕ) (x : X) → slice_get xs i ≡ Some x → slice_get (adjust f xs i) i ≡ Some (f x)
 adjusted_here f [] i x e = cc
 adjusted_here f (y ∷ ys) zero x e = ap (option_map f) e
@@ -39,7 +42,10 @@ read_is_found (y ∷ ys) zero x h e = ap Some (sym e)
 read_is_found (y ∷ ys) (suc i) x h e = read_is_found ys i x (omega arith) e
 
 -- what was changed stood there before
-pub adjusted_stood_before : {X : Type 0} (f : X → X) (xs : List X) (i : ℕ) (y : X) → slice_get (adjust f xs i) i ≡ Some y → (x : X) × (slice_get xs i ≡ Some x) × (y ≡ f x)
+pub adjusted_stood_before :
+    {X : Type 0} (f : X → X) (xs : List X) (i : ℕ) (y : X)
+    → slice_get (adjust f xs i) i ≡ Some y
+    → (x : X) × (slice_get xs i ≡ Some x) × (y ≡ f x)
 adjusted_stood_before f [] i y e = cc
 adjusted_stood_before f (x ∷ xs) zero y e = (x, refl, let s : f x ≡ y = cc in sym s)
 adjusted_stood_before f (x ∷ xs) (suc i) y e = adjusted_stood_before f xs i y e

@@ -1,3 +1,4 @@
+-- The pool of copies: the versions that are kept, and which of them a check at a lane reads
 use Rattle.std.specs.Prelude.{◌≡◌, ℕ, ◌<◌, ◌≤◌, Bool, List, [], ◌∷◌, ◌++◌, length, Option}
 use Rattle.std.specs.List.{list_any, AllPairs}
 use Rattle.st_snap.specs.declared.headers.Target.{Target}

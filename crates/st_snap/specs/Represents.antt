@@ -8,7 +8,7 @@ use Rattle.st_snap.specs.declared.headers.Forward.{Forward}
 use Rattle.st_snap.specs.declared.headers.Header.{Header}
 use Rattle.st_snap.specs.declared.headers.Target.{Target}
 use Rattle.st_snap.specs.declared.headers.Target.TheVariants.{Copied, Gone}
-use Rattle.st_snap.specs.Lanes.{is_idle, is_within}
+use Rattle.st_snap.specs.Lanes.{is_idle, is_launched_within}
 use Rattle.st_snap.specs.Pool.{PoolVersions, KeptVersion, AreInOrder}
 use Rattle.st_snap.specs.Table.{TableLists, object_room, HasWords}
 
@@ -32,13 +32,13 @@ pub record AreLanes (sizes : Sizes) (active : List ℕ) (lanes : List (Option �
 
 -- the row of a version that is kept: the active checks that were launched while it stood
 abbrev pub row_of : List ℕ → KeptVersion → Row
-row_of active kept = record { obj = kept.version.obj; checks = filter (is_within kept.version.after kept.version.upto) active }
+row_of active kept = record { obj = kept.version.obj; checks = filter (is_launched_within kept.version.after kept.version.upto) active }
 
 -- versions that were kept up to this epoch, in order, each of which some active check needs
 pub record AreNeeded (epoch : ℕ) (active : List ℕ) (versions : List KeptVersion) : Type 0 where
   pub upto : All (λ kept. kept.version.upto ≤ epoch) versions
   pub order : AreInOrder versions
-  pub some : All (λ kept. list_any (is_within kept.version.after kept.version.upto) active ≡ true) versions
+  pub some : All (λ kept. list_any (is_launched_within kept.version.after kept.version.upto) active ≡ true) versions
 
 -- the versions in the pool are the copies kept, in their order
 pub record ArePooled (sizes : Sizes) (w : World) (pool : PoolVersions) : Type 0 where

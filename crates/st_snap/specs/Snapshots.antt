@@ -1,3 +1,4 @@
+-- A snapshot heap as its callers see it: shape, sizes and journal, and what its calls ask and answer in these terms
 use Rattle.std.specs.Prelude.{◌≡◌, ◌≢◌, ℕ, ◌*◌, ◌<◌, Bool, List, [], ◌∷◌, ◌++◌, length, slice_get, Option, Some, None, IsSome, IsTrue}
 use Rattle.st_events.specs.declared.events.Event.{Event}
 use Rattle.st_events.specs.declared.limits.Sizes.{Sizes}

@@ -1,3 +1,4 @@
+-- The tables of a snapshot heap as lists, and how each call of theirs changes them
 use Rattle.std.specs.Prelude.{◌≡◌, ◌≢◌, ℕ, zero, suc, ◌+◌, ◌*◌, ◌<◌, ◌≤◌, ◌⊎◌}
 use Rattle.std.specs.Prelude.{Bool, true, false, List, [], ◌∷◌, length, filter, position, slice_get, slice_set, slice_index, replicate, Option, Some, None}
 use Rattle.std.specs.List.{Contains}
@@ -29,7 +30,7 @@ abbrev pub object_room : Sizes → ℕ
 object_room sizes = FIRST_OF_REGIONS + sizes.mutators * sizes.objects
 
 -- the tables before the first event
-pub record IsFirst (shape : ShapeLists) (sizes : Sizes) (t : TableLists) : Type 0 where
+pub record AreFirstTables (shape : ShapeLists) (sizes : Sizes) (t : TableLists) : Type 0 where
   pub heap : heap_of t.heap ≡ first_heap shape
   pub room : length t.heap ≡ object_room sizes
   pub header_room : length t.headers ≡ object_room sizes
@@ -123,7 +124,7 @@ AnswersAt pool field Gone answer = answer ≡ None
 AnswersAt pool field (Copied copy) answer = (kept : KeptVersion) → Contains pool.versions kept → kept.version.copy ≡ copy → answer ≡ Some (slice_index kept.words field)
 
 -- what a check reads: by its forwarding word where that is of its epoch, else the live word
-pub record Reads (t : TableLists) (lane : Lane) (obj field : ℕ) (answer : Option ℕ) : Type 0 where
+pub record ReadsByForward (t : TableLists) (lane : Lane) (obj field : ℕ) (answer : Option ℕ) : Type 0 where
   pub header : Header
   pub forward : Forward
   pub found : slice_get t.headers obj ≡ Some header
@@ -132,8 +133,8 @@ pub record Reads (t : TableLists) (lane : Lane) (obj field : ℕ) (answer : Opti
   pub sent : forward.epoch ≡ lane.number → AnswersAt t.pool field forward.target answer
 
 -- each copy that a check is sent to at this header is one of the pool's
-abbrev pub AreCopies : TableLists → Lane → ℕ → Type 0
-AreCopies t lane obj =
+abbrev pub IsSentToCopies : TableLists → Lane → ℕ → Type 0
+IsSentToCopies t lane obj =
     (header : Header) (forward : Forward) (copy : ℕ)
     → slice_get t.headers obj ≡ Some header
     → slice_get header.forward lane.index ≡ Some forward

@@ -38,13 +38,13 @@ impl Model for Table {
 impl Table {
     ghost use Rattle.st_snap.specs.Lanes.{newest_of};
     ghost use Rattle.st_snap.specs.Pool.{KeptVersion, AreInOrder, is_read};
-    ghost use Rattle.st_snap.specs.Table.{IsFirst, Makes, KeepsVersion, Writes, Changes, ChangesWhere, Launches, retired_at, Reads, AreCopies, HasWords, object_room};
+    ghost use Rattle.st_snap.specs.Table.{AreFirstTables, Makes, KeepsVersion, Writes, Changes, ChangesWhere, Launches, retired_at, ReadsByForward, IsSentToCopies, HasWords, object_room};
 
     /// Before the first event.
     pub fn make(alloc: Global, shape: &Shape, sizes: &Sizes) -> Result<Table, NoMemory>
         requires shape { IsWithinLimits shape.now }
         requires sizes { AreWithinLimits sizes.now }
-        ensures { IfOk result (IsFirst shape.now sizes.now) }
+        ensures { IfOk result (AreFirstTables shape.now sizes.now) }
     {
         let objects = FIRST_OF_REGIONS + sizes.mutators as usize * sizes.objects as usize;
         Ok(Table {
@@ -182,8 +182,8 @@ impl Table {
         requires lane { lane.now.index < LANES }
         requires header { obj < length self.now.headers }
         requires field { field < MOST_FIELDS }
-        requires copies { AreCopies self.now lane.now obj }
-        ensures { Reads self.now lane.now obj field result }
+        requires copies { IsSentToCopies self.now lane.now obj }
+        ensures { ReadsByForward self.now lane.now obj field result }
     {
         let Forward { epoch, target } = self.headers[obj as usize].forward[lane.index];
         if epoch != lane.number {

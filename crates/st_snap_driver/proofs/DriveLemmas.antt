@@ -1,5 +1,6 @@
 -- The tests' heaps over one more event
-use Rattle.std.proofs.Common.{◌≡◌, ◌≢◌, ℕ, zero, suc, ◌<◌, Bool, true, false, List, [], ◌∷◌, ◌++◌, length, map, replicate, slice_get, Option, Some, None, refl, sym, ap, subst, arith, IsSome, take, drop, get_or, cond}
+use Rattle.std.proofs.Common.{◌≡◌, ◌≢◌, ℕ, zero, suc, ◌<◌, Bool, true, false, List, [], ◌∷◌, ◌++◌, length, map, replicate, slice_get, Option}
+use Rattle.std.proofs.Common.{Some, None, refl, sym, ap, subst, arith, IsSome, take, drop, get_or, cond}
 use Rattle.std.specs.List.{All, remove}
 use Rattle.std.proofs.lemmas.List.Quantifiers.{all_pairs_push, all_pairs_remove}
 use Rattle.std.proofs.lemmas.List.{length-map, length-replicate}
@@ -35,15 +36,27 @@ kind_is_number width (suc zero) field kind e = replicated_is_one width Int field
 kind_is_number width (suc (suc class)) field kind e = cc
 
 -- so each word has the kind of a cell that exists
-number_fits : (width : ℕ) (heap : Heap) (x : Option Object) (field found word : ℕ) → has_kind_if_any heap (kind_of_field (plain_shape width) x field) found ≡ true → has_kind_if_any heap (kind_of_field (plain_shape width) x field) word ≡ true
+number_fits :
+    (width : ℕ) (heap : Heap) (x : Option Object) (field found word : ℕ)
+    → has_kind_if_any heap (kind_of_field (plain_shape width) x field) found ≡ true
+    → has_kind_if_any heap (kind_of_field (plain_shape width) x field) word ≡ true
 number_fits width heap None field found word h = cc
 number_fits width heap (Some x) field found word h = cases (slice_get (kinds_of (plain_shape width) x.class) field) refl h
   where
-    cases : (o : Option Kind) → slice_get (kinds_of (plain_shape width) x.class) field ≡ o → has_kind_if_any heap o found ≡ true → has_kind_if_any heap (slice_get (kinds_of (plain_shape width) x.class) field) word ≡ true
+    cases :
+        (o : Option Kind)
+        → slice_get (kinds_of (plain_shape width) x.class) field ≡ o
+        → has_kind_if_any heap o found ≡ true
+        → has_kind_if_any heap (slice_get (kinds_of (plain_shape width) x.class) field) word ≡ true
     cases None e i = cc
     cases (Some kind) e i = rw (e, kind_is_number width x.class field kind e) refl
 
-pub driven_words_fit : (s : Snapshots) (sizes : Sizes) (width : ℕ) (known : List (ℕ × ℕ)) (held : List Lane) (obj field word : ℕ) → IsDriven s sizes width known held → HasCell s obj field → has_kind_of s obj field word ≡ true
+-- each word fits each cell of a driven heap
+pub driven_words_fit :
+    (s : Snapshots) (sizes : Sizes) (width : ℕ) (known : List (ℕ × ℕ)) (held : List Lane) (obj field word : ℕ)
+    → IsDriven s sizes width known held
+    → HasCell s obj field
+    → has_kind_of s obj field word ≡ true
 driven_words_fit s sizes width known held obj field word d cell = cases (word_at (heap_now s) obj field) refl cell
   where
     typed : IsTypedHeap s.shape (heap_now s)
@@ -51,19 +64,41 @@ driven_words_fit s sizes width known held obj field word d cell = cases (word_at
 
     cases : (o : Option ℕ) → word_at (heap_now s) obj field ≡ o → IsSome o → fits_cell s.shape (heap_now s) obj field word ≡ true
     cases None e i = cc
-    cases (Some found) e i = subst (λ (shape : ShapeLists). fits_cell shape (heap_now s) obj field word ≡ true) (sym d.shape) (number_fits width (heap_now s) (heap_now s obj) field found word (subst (λ (shape : ShapeLists). fits_cell shape (heap_now s) obj field found ≡ true) d.shape (typed.kinds obj field found e)))
+    cases (Some found) e i =
+        subst (λ (shape : ShapeLists). fits_cell shape (heap_now s) obj field word ≡ true) (sym d.shape)
+        (number_fits width (heap_now s) (heap_now s obj) field found word
+        (subst (λ (shape : ShapeLists). fits_cell shape (heap_now s) obj field found ≡ true) d.shape (typed.kinds obj field found e)))
 
 -- what is known stays known
-driven_lane_stays : (s : Snapshots) (e : Event) (known : List (ℕ × ℕ)) → IsWithinLimits s.shape → IsLegalHeap (with_event s e) → (lane : Lane) → (IsLaneOf s lane → IsLaneOf (with_event s e) lane) → IsDrivenLane s known lane → IsDrivenLane (with_event s e) known lane
+driven_lane_stays :
+    (s : Snapshots) (e : Event) (known : List (ℕ × ℕ))
+    → IsWithinLimits s.shape
+    → IsLegalHeap (with_event s e)
+    → (lane : Lane)
+    → (IsLaneOf s lane → IsLaneOf (with_event s e) lane)
+    → IsDrivenLane s known lane
+    → IsDrivenLane (with_event s e) known lane
 driven_lane_stays s e known fits legal lane stay h = record {
   is = stay h.is;
   had = All-weaker (HadCells s lane.number) (HadCells (with_event s e) lane.number) (λ object had field lt. past_stays s e lane.number object.0 field fits legal (had field lt)) known h.had;
 }
 
-pub driven_with_held_lanes : (s s' : Snapshots) (e : Event) (sizes : Sizes) (width : ℕ) (known : List (ℕ × ℕ)) (held : List Lane) → IsDriven s sizes width known held → s' ≡ with_event s e → IsLegalHeap s' → All (λ lane. IsLaneOf s lane → IsLaneOf s' lane) held → IsDriven s' sizes width known held
-driven_with_held_lanes s s' e sizes width known held d same legal stay = subst (λ (x : Snapshots). IsDriven x sizes width known held) (sym same) (go (subst (λ (x : Snapshots). IsLegalHeap x) same legal) (λ k lane lt is. subst (λ (x : Snapshots). IsLaneOf x (get_or held k lane)) same (stay k lane lt is)))
+-- one more event, where each lane that is held stays one of the heap
+pub driven_with_held_lanes :
+    (s s' : Snapshots) (e : Event) (sizes : Sizes) (width : ℕ) (known : List (ℕ × ℕ)) (held : List Lane)
+    → IsDriven s sizes width known held
+    → s' ≡ with_event s e
+    → IsLegalHeap s'
+    → All (λ lane. IsLaneOf s lane → IsLaneOf s' lane) held
+    → IsDriven s' sizes width known held
+driven_with_held_lanes s s' e sizes width known held d same legal stay =
+    subst (λ (x : Snapshots). IsDriven x sizes width known held) (sym same)
+    (go (subst (λ (x : Snapshots). IsLegalHeap x) same legal) (λ k lane lt is. subst (λ (x : Snapshots). IsLaneOf x (get_or held k lane)) same (stay k lane lt is)))
   where
-    go : IsLegalHeap (with_event s e) → All (λ lane. IsLaneOf s lane → IsLaneOf (with_event s e) lane) held → IsDriven (with_event s e) sizes width known held
+    go :
+        IsLegalHeap (with_event s e)
+        → All (λ lane. IsLaneOf s lane → IsLaneOf (with_event s e) lane) held
+        → IsDriven (with_event s e) sizes width known held
     go legal stay = record {
       sizes = d.sizes;
       shape = d.shape;
@@ -74,24 +109,46 @@ driven_with_held_lanes s s' e sizes width known held d same legal stay = subst (
       apart = d.apart;
     }
 
-pub driven_with_all_lanes : (s s' : Snapshots) (e : Event) (sizes : Sizes) (width : ℕ) (known : List (ℕ × ℕ)) (held : List Lane) → IsDriven s sizes width known held → s' ≡ with_event s e → IsLegalHeap s' → ((lane : Lane) → IsLaneOf s lane → IsLaneOf s' lane) → IsDriven s' sizes width known held
+-- one more event, where every lane stays one of the heap
+pub driven_with_all_lanes :
+    (s s' : Snapshots) (e : Event) (sizes : Sizes) (width : ℕ) (known : List (ℕ × ℕ)) (held : List Lane)
+    → IsDriven s sizes width known held
+    → s' ≡ with_event s e
+    → IsLegalHeap s'
+    → ((lane : Lane) → IsLaneOf s lane → IsLaneOf s' lane)
+    → IsDriven s' sizes width known held
 driven_with_all_lanes s s' e sizes width known held d same legal stay = driven_with_held_lanes s s' e sizes width known held d same legal (λ k lane lt is. stay (get_or held k lane) is)
 
 -- a list that grew by one, or did not
-pub driven_with_pushed : (s : Snapshots) (sizes : Sizes) (width : ℕ) (known : List (ℕ × ℕ)) (held items : List Lane) (lane : Lane) (b : Bool) → IsDriven s sizes width known held → IsDriven s sizes width known (held ++ lane ∷ []) → items ≡ cond b (held ++ lane ∷ []) held → IsDriven s sizes width known items
+pub driven_with_pushed :
+    (s : Snapshots) (sizes : Sizes) (width : ℕ) (known : List (ℕ × ℕ)) (held items : List Lane) (lane : Lane) (b : Bool)
+    → IsDriven s sizes width known held
+    → IsDriven s sizes width known (held ++ lane ∷ [])
+    → items ≡ cond b (held ++ lane ∷ []) held
+    → IsDriven s sizes width known items
 driven_with_pushed s sizes width known held items lane true d more e = subst (λ (x : List Lane). IsDriven s sizes width known x) (sym e) more
 driven_with_pushed s sizes width known held items lane false d more e = subst (λ (x : List Lane). IsDriven s sizes width known x) (sym e) d
 
-pub driven_with_known : (s : Snapshots) (sizes : Sizes) (width : ℕ) (known items : List (ℕ × ℕ)) (held : List Lane) (object : ℕ × ℕ) (b : Bool) → IsDriven s sizes width known held → IsDriven s sizes width (known ++ object ∷ []) held → items ≡ cond b (known ++ object ∷ []) known → IsDriven s sizes width items held
+-- the same of the known objects
+pub driven_with_known :
+    (s : Snapshots) (sizes : Sizes) (width : ℕ) (known items : List (ℕ × ℕ)) (held : List Lane) (object : ℕ × ℕ) (b : Bool)
+    → IsDriven s sizes width known held
+    → IsDriven s sizes width (known ++ object ∷ []) held
+    → items ≡ cond b (known ++ object ∷ []) known
+    → IsDriven s sizes width items held
 driven_with_known s sizes width known items held object true d more e = subst (λ (x : List (ℕ × ℕ)). IsDriven s sizes width x held) (sym e) more
 driven_with_known s sizes width known items held object false d more e = subst (λ (x : List (ℕ × ℕ)). IsDriven s sizes width x held) (sym e) d
 
+-- a list without a length is empty
 pub no_length_is_empty : {X : Type 0} (xs : List X) → length xs ≡ 0 → xs ≡ []
 no_length_is_empty [] e = refl
 no_length_is_empty (x ∷ xs) e = absurd (omega arith)
 
 -- the start: the shared object has one field
-pub driven_at_first : (sizes : Sizes) (width : ℕ) → IsWithinLimits (plain_shape width) → IsDriven (new_heap (plain_shape width) sizes) sizes width ((1, 1) ∷ []) []
+pub driven_at_first :
+    (sizes : Sizes) (width : ℕ)
+    → IsWithinLimits (plain_shape width)
+    → IsDriven (new_heap (plain_shape width) sizes) sizes width ((1, 1) ∷ []) []
 driven_at_first sizes width fits = record {
   sizes = refl;
   shape = refl;
@@ -117,7 +174,12 @@ new_object_has_cells s width m obj shape = λ field lt.
     (subst (λ (x : Option Object). IsSome (word_of x field)) (sym (object_put_here (world_of s).heap obj (fresh s.shape 1))) (rw (slice_get-get_or words field 0 long) refl))
 
 -- a new object, where no check is active
-pub driven_after_new : (s s' : Snapshots) (sizes : Sizes) (width m obj : ℕ) (known : List (ℕ × ℕ)) → IsDriven s' sizes width known [] → s.shape ≡ plain_shape width → s' ≡ with_event s (New m obj 1) → IsDriven s' sizes width (known ++ (obj, width) ∷ []) []
+pub driven_after_new :
+    (s s' : Snapshots) (sizes : Sizes) (width m obj : ℕ) (known : List (ℕ × ℕ))
+    → IsDriven s' sizes width known []
+    → s.shape ≡ plain_shape width
+    → s' ≡ with_event s (New m obj 1)
+    → IsDriven s' sizes width (known ++ (obj, width) ∷ []) []
 driven_after_new s s' sizes width m obj known d shape same = record {
   sizes = d.sizes;
   shape = d.shape;
@@ -129,20 +191,33 @@ driven_after_new s s' sizes width m obj known d shape same = record {
 }
 
 -- no arguments are right for the check
-pub no_arguments_fit : (s : Snapshots) (sizes : Sizes) (width : ℕ) (known : List (ℕ × ℕ)) (held : List Lane) → IsDriven s sizes width known held → (0 < length s.shape.checks) × (are_args_of s 0 (record { count = 0; words = 0 ∷ 0 ∷ 0 ∷ 0 ∷ [] }) ≡ true)
+pub no_arguments_fit :
+    (s : Snapshots) (sizes : Sizes) (width : ℕ) (known : List (ℕ × ℕ)) (held : List Lane)
+    → IsDriven s sizes width known held
+    → (0 < length s.shape.checks) × (are_args_of s 0 (record { count = 0; words = 0 ∷ 0 ∷ 0 ∷ 0 ∷ [] }) ≡ true)
 no_arguments_fit s sizes width known held d = (
   subst (λ (x : ShapeLists). 0 < length x.checks) (sym d.shape) (omega arith),
   subst (λ (x : ShapeLists). args_fit (heap_now s) (slice_get x.checks 0) (record { count = 0; words = 0 ∷ 0 ∷ 0 ∷ 0 ∷ [] }) ≡ true) (sym d.shape) refl,
 )
 
 -- each known object stood at a launch that is just made
-cells_at_launch : (s : Snapshots) (m n site : ℕ) (args : Args) (object : ℕ × ℕ) → HasCells s object → HadCells (with_event s (Launch m site n args)) n object
+cells_at_launch :
+    (s : Snapshots) (m n site : ℕ) (args : Args) (object : ℕ × ℕ)
+    → HasCells s object
+    → HadCells (with_event s (Launch m site n args)) n object
 cells_at_launch s m n site args object has = λ field lt.
     subst (λ (w : World). IsSome (word_then (w.launched n) object.0 field)) (sym (world_after_one_more s.shape s.sizes s.journal (Launch m site n args)))
     (rw (at_same n (Some (record { past = (world_of s).heap; thread = m; site = site; args = args })) (world_of s).launched) (has field lt))
 
 -- a launch
-pub driven_after_launch : (s s' : Snapshots) (sizes : Sizes) (width m site : ℕ) (args : Args) (lane : Lane) (known : List (ℕ × ℕ)) (held : List Lane) → IsDriven s sizes width known held → IsDriven s' sizes width known held → s' ≡ with_event s (Launch m site lane.number args) → IsLaneOf s' lane → HasNoLane s lane.number → IsDriven s' sizes width known (held ++ lane ∷ [])
+pub driven_after_launch :
+    (s s' : Snapshots) (sizes : Sizes) (width m site : ℕ) (args : Args) (lane : Lane) (known : List (ℕ × ℕ)) (held : List Lane)
+    → IsDriven s sizes width known held
+    → IsDriven s' sizes width known held
+    → s' ≡ with_event s (Launch m site lane.number args)
+    → IsLaneOf s' lane
+    → HasNoLane s lane.number
+    → IsDriven s' sizes width known (held ++ lane ∷ [])
 driven_after_launch s s' sizes width m site args lane known held before d same is fresh = record {
   sizes = d.sizes;
   shape = d.shape;
@@ -151,13 +226,18 @@ driven_after_launch s s' sizes width m site args lane known held before d same i
   objects = d.objects;
   lanes = All-push (IsDrivenLane s' known) held lane d.lanes (record {
     is = is;
-    had = All-weaker (HasCells s) (HadCells s' lane.number) (λ object has. subst (λ (x : Snapshots). HadCells x lane.number object) (sym same) (cells_at_launch s m lane.number site args object has)) known before.objects;
+    had = All-weaker (HasCells s) (HadCells s' lane.number)
+        (λ object has. subst (λ (x : Snapshots). HadCells x lane.number object) (sym same) (cells_at_launch s m lane.number site args object has)) known before.objects;
   });
   apart = all_pairs_push (λ (one : Lane) (later : Lane). one.number ≢ later.number) held lane d.apart (λ k other lt. fresh (get_or held k other) (before.lanes k other lt).is);
 }
 
 -- one check fewer is held
-pub driven_with_one_less : (s : Snapshots) (sizes : Sizes) (width : ℕ) (known : List (ℕ × ℕ)) (held : List Lane) (i : ℕ) → i < length held → IsDriven s sizes width known held → IsDriven s sizes width known (remove held i)
+pub driven_with_one_less :
+    (s : Snapshots) (sizes : Sizes) (width : ℕ) (known : List (ℕ × ℕ)) (held : List Lane) (i : ℕ)
+    → i < length held
+    → IsDriven s sizes width known held
+    → IsDriven s sizes width known (remove held i)
 driven_with_one_less s sizes width known held i within d = record {
   sizes = d.sizes;
   shape = d.shape;

@@ -25,8 +25,8 @@ pub record IsDrivenLane (s : Snapshots) (known : List (ℕ × ℕ)) (lane : Lane
   pub had : All (HadCells s lane.number) known
 
 -- no two of the lanes have one number
-abbrev pub AreApart : List Lane → Type 0
-AreApart held = AllPairs (λ lane later. lane.number ≢ later.number) held
+abbrev pub HaveOwnNumbers : List Lane → Type 0
+HaveOwnNumbers held = AllPairs (λ lane later. lane.number ≢ later.number) held
 
 -- a heap, the sizes that it was made for, and objects and lanes that are known
 pub record IsDriven (s : Snapshots) (made_for : Sizes) (width : ℕ) (known : List (ℕ × ℕ)) (held : List Lane) : Type 0 where
@@ -36,7 +36,7 @@ pub record IsDriven (s : Snapshots) (made_for : Sizes) (width : ℕ) (known : Li
   pub legal : IsLegalHeap s
   pub objects : All (HasCells s) known
   pub lanes : All (IsDrivenLane s known) held
-  pub apart : AreApart held
+  pub apart : HaveOwnNumbers held
 
 -- a mutator can act on a cell
 pub record CanAct (s : Snapshots) (m obj field : ℕ) : Type 0 where

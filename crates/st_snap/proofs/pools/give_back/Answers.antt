@@ -38,7 +38,8 @@ loop-index-preserved c =
       }
       | else-is_read w ↦ record {
         place = rw (w.kept-is, w.end-is) (FiltersInPlace-more_no inv.place long (sym c.is_read.ensures ∙ w.if-is_read.false) c.index.ensures);
-        free = rw (w.free-is, w.push_reserved.ensures.items, inv.free) (unread_is_given_back unread c.args.free.now.items K i v within here (ap not (sym c.is_read.ensures ∙ w.if-is_read.false)));
+        free = rw (w.free-is, w.push_reserved.ensures.items, inv.free)
+            (unread_is_given_back unread c.args.free.now.items K i v within here (ap not (sym c.is_read.ensures ∙ w.if-is_read.false)));
         len = rw w.free-is (omega (arith, w.push_reserved.ensures.len, inv.len));
         free_room = rw w.free-is (w.push_reserved.ensures.capacity ∙ inv.free_room);
         kept_room = rw w.kept-is inv.kept_room;

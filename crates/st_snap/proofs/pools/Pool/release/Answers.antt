@@ -7,7 +7,9 @@ use Rattle.st_snap.proofs.PoolLemmas.{releasing_uses_as_many, releasing_keeps_co
 use Rattle.st_snap.proofs.pools.Pool.release.Goals as goal
 
 pub count_earlier-start-requires : goal.count_earlier-start-requires
-count_earlier-start-requires c = subst (λ (kept : List Version). AreVersionsInOrder kept) (sym c.as_slice.ensures.value) (versions_in_order c.self.inside.words.items c.self.inside.kept.items (subst (λ (p : PoolVersions). AreInOrder p.versions) (sym c.self.view_is) c.requires.order))
+count_earlier-start-requires c =
+    subst (λ (kept : List Version). AreVersionsInOrder kept) (sym c.as_slice.ensures.value)
+    (versions_in_order c.self.inside.words.items c.self.inside.kept.items (subst (λ (p : PoolVersions). AreInOrder p.versions) (sym c.self.view_is) c.requires.order))
 
 pub give_back-requires-clause-read : goal.give_back-requires-clause-read
 give_back-requires-clause-read c =

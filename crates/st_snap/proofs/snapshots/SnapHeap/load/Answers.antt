@@ -14,8 +14,10 @@ invariant_of-self c =
     let spare : HasSpare (record { shape = f.shape; sizes = f.sizes; journal = f.journal.events }) = subst (λ (s : Snapshots). HasSpare s) (sym c.self.view_is) c.requires.spare in
     let thread : c.args.m < f.sizes.mutators = subst (λ (s : Snapshots). c.args.m < s.sizes.mutators) (sym c.self.view_is) c.requires.thread in
     let word = ap (λ (heap : Heap). word_at heap c.args.obj c.args.field) (sym c.self.invariant.tables.live.heap) ∙ c.load-value.ensures in
-    holds_after_event f.shape f.sizes f.table f.table f.journal c.append.new.journal (Load c.args.m c.args.obj c.args.field c.load-value.result) h spare c.append.ensures.events c.append.ensures.spare
-    (load_is_legal f.shape f.sizes (world_after f.shape f.sizes f.journal.events) c.args.m c.args.obj c.args.field c.load-value.result (record { thread = thread; word = word })) refl c.self.invariant.tables
+    holds_after_event f.shape f.sizes f.table f.table f.journal c.append.new.journal
+    (Load c.args.m c.args.obj c.args.field c.load-value.result) h spare c.append.ensures.events c.append.ensures.spare
+    (load_is_legal f.shape f.sizes (world_after f.shape f.sizes f.journal.events) c.args.m c.args.obj c.args.field c.load-value.result
+    (record { thread = thread; word = word })) refl c.self.invariant.tables
 
 pub returns-clause-legal : goal.returns-clause-legal
 returns-clause-legal c = (invariant_of-self c).legal

@@ -8,4 +8,5 @@ pub invariant_of-result : goal.invariant_of-result
 invariant_of-result c =
     let same : c.in_ok-copy_shape.field-0 ≡ c.args.shape.now = c.in_ok-copy_shape.ensures in
     subst (λ (shape : ShapeLists). Holds shape c.args.sizes.now c.in_ok-make.field-0 c.in_ok-with_room.field-0) (sym same)
-    (holds_at_first c.args.shape.now c.args.sizes.now c.in_ok-make.field-0 c.in_ok-with_room.field-0 c.requires.shape c.requires.sizes c.in_ok-make.ensures c.in_ok-with_room.ensures.empty c.in_ok-with_room.ensures.spare)
+    (holds_at_first c.args.shape.now c.args.sizes.now c.in_ok-make.field-0 c.in_ok-with_room.field-0 c.requires.shape c.requires.sizes
+    c.in_ok-make.ensures c.in_ok-with_room.ensures.empty c.in_ok-with_room.ensures.spare)

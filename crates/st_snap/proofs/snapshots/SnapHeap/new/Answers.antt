@@ -22,13 +22,18 @@ invariant_of-self c =
     let made = c.self.invariant.tables.live.made c.args.m k.count k.found in
     let number : obj ≡ next_object f.sizes w c.args.m = k.number ∙ ap (λ (n : ℕ). 2 + c.args.m * f.sizes.objects + n) made in
     let legal = new_is_legal f.shape f.sizes w c.args.m obj c.args.class (record { thread = thread; object = number; room = room; some_class = c.requires.class; declared = declared }) in
-    holds_after_event f.shape f.sizes f.table c.make_object-obj.new.self f.journal c.append.new.journal (New c.args.m obj c.args.class) c.self.invariant spare c.append.ensures.events c.append.ensures.spare
+    holds_after_event f.shape f.sizes f.table c.make_object-obj.new.self f.journal c.append.new.journal
+    (New c.args.m obj c.args.class) c.self.invariant spare c.append.ensures.events c.append.ensures.spare
     legal
     (made_same_lanes f.shape f.sizes.objects f.table c.make_object-obj.new.self c.args.m c.args.class obj c.make_object-obj.ensures)
-    (new_is_represented f.shape f.sizes w f.table c.make_object-obj.new.self c.args.m obj c.args.class (world_is_sound f.shape f.sizes f.table f.journal c.self.invariant) (legal_new f.shape f.sizes w c.args.m obj c.args.class legal) c.self.invariant.tables c.make_object-obj.ensures)
+    (new_is_represented f.shape f.sizes w f.table c.make_object-obj.new.self c.args.m obj c.args.class
+    (world_is_sound f.shape f.sizes f.table f.journal c.self.invariant) (legal_new f.shape f.sizes w c.args.m obj c.args.class legal) c.self.invariant.tables c.make_object-obj.ensures)
 
 pub returns-clause-legal : goal.returns-clause-legal
 returns-clause-legal c = (invariant_of-self c).legal
 
 pub returns-clause-lanes : goal.returns-clause-lanes
-returns-clause-lanes c = sym (invariant_of-self c).lanes ∙ made_same_lanes c.self.inside.shape c.self.inside.sizes.objects c.self.inside.table c.make_object-obj.new.self c.args.m c.args.class c.make_object-obj.result c.make_object-obj.ensures ∙ c.self.invariant.lanes ∙ ap lanes_now c.self.view_is
+returns-clause-lanes c =
+    sym (invariant_of-self c).lanes
+    ∙ made_same_lanes c.self.inside.shape c.self.inside.sizes.objects c.self.inside.table c.make_object-obj.new.self c.args.m c.args.class
+    c.make_object-obj.result c.make_object-obj.ensures ∙ c.self.invariant.lanes ∙ ap lanes_now c.self.view_is

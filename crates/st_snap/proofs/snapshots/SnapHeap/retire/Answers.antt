@@ -30,8 +30,10 @@ retire-requires-clause-earlier c =
     let lane = c.args.lane in
     let here = lane_in_table f.shape f.sizes f.table f.journal lane c.self.invariant (subst (λ (s : Snapshots). IsLaneOf s lane) (sym c.self.view_is) c.requires.lane) in
     let cleared = slice_set f.table.lanes lane.index None in
-    let lanes = lanes_at_retire f.sizes w.active f.table.lanes lane.index lane.number c.self.invariant.tables.lanes (world_is_sound f.shape f.sizes f.table f.journal c.self.invariant).active.rising here in
-    earlier_is_read w.epoch lane.number w.active cleared f.table.pool.versions (λ a u. between_is_active f.sizes (without lane.number w.active) cleared a u lanes) c.self.invariant.tables.pool.needed
+    let lanes = lanes_at_retire f.sizes w.active f.table.lanes lane.index lane.number c.self.invariant.tables.lanes
+    (world_is_sound f.shape f.sizes f.table f.journal c.self.invariant).active.rising here in
+    earlier_is_read w.epoch lane.number w.active cleared f.table.pool.versions
+    (λ a u. between_is_active f.sizes (without lane.number w.active) cleared a u lanes) c.self.invariant.tables.pool.needed
 
 pub invariant_of-self : goal.invariant_of-self
 invariant_of-self c =
@@ -41,10 +43,12 @@ invariant_of-self c =
     let spare : HasSpare (record { shape = f.shape; sizes = f.sizes; journal = f.journal.events }) = subst (λ (s : Snapshots). HasSpare s) (sym c.self.view_is) c.requires.spare in
     let thread = subst (λ (s : Snapshots). c.args.m ≤ s.sizes.mutators) (sym c.self.view_is) c.requires.thread in
     let here = lane_in_table f.shape f.sizes f.table f.journal lane c.self.invariant (subst (λ (s : Snapshots). IsLaneOf s lane) (sym c.self.view_is) c.requires.lane) in
-    holds_after_event f.shape f.sizes f.table c.retire.new.self f.journal c.append.new.journal (Retire c.args.m lane.number) c.self.invariant spare c.append.ensures.events c.append.ensures.spare
+    holds_after_event f.shape f.sizes f.table c.retire.new.self f.journal c.append.new.journal
+    (Retire c.args.m lane.number) c.self.invariant spare c.append.ensures.events c.append.ensures.spare
     (retire_is_legal f.shape f.sizes w c.args.m lane.number (record { thread = thread; active = c.self.invariant.tables.lanes.are_active lane.index lane.number here }))
     (ap (λ (t : TableLists). t.lanes) c.retire.ensures ∙ cleared_is_set lane.number f.table.lanes lane.index here (λ j e. c.self.invariant.tables.lanes.once j lane.index lane.number e here))
-    (subst (λ (t : TableLists). Represents f.sizes (next f.shape f.sizes w (Retire c.args.m lane.number)) t) (sym c.retire.ensures) (retire_is_represented f.shape f.sizes w f.table c.args.m lane.number lane.index (world_is_sound f.shape f.sizes f.table f.journal c.self.invariant) here c.self.invariant.tables))
+    (subst (λ (t : TableLists). Represents f.sizes (next f.shape f.sizes w (Retire c.args.m lane.number)) t) (sym c.retire.ensures)
+    (retire_is_represented f.shape f.sizes w f.table c.args.m lane.number lane.index (world_is_sound f.shape f.sizes f.table f.journal c.self.invariant) here c.self.invariant.tables))
 
 pub returns-clause-legal : goal.returns-clause-legal
 returns-clause-legal c = (invariant_of-self c).legal
@@ -61,4 +65,6 @@ returns-clause-others c = λ other ne is.
     let gone = lane_in_table f.shape f.sizes f.table f.journal lane c.self.invariant (subst (λ (s : Snapshots). IsLaneOf s lane) (sym c.self.view_is) c.requires.lane) in
     let here = lane_in_table f.shape f.sizes f.table f.journal other c.self.invariant (subst (λ (s : Snapshots). IsLaneOf s other) (sym c.self.view_is) is) in
     let apart : other.index ≢ lane.index = λ e. (let both : Some (Some other.number) ≡ Some (Some lane.number) = sym here ∙ ap (slice_get f.table.lanes) e ∙ gone in ne cc) in
-    lane_of_table f.shape f.sizes c.retire.new.self c.append.new.journal other (invariant_of-self c) (ap (λ (t : TableLists). slice_get t.lanes other.index) c.retire.ensures ∙ set_elsewhere f.table.lanes lane.index None other.index (slice_get_within f.table.lanes lane.index (Some lane.number) gone) apart ∙ here)
+    lane_of_table f.shape f.sizes c.retire.new.self c.append.new.journal other (invariant_of-self c)
+    (ap (λ (t : TableLists). slice_get t.lanes other.index) c.retire.ensures
+    ∙ set_elsewhere f.table.lanes lane.index None other.index (slice_get_within f.table.lanes lane.index (Some lane.number) gone) apart ∙ here)

@@ -8,7 +8,8 @@ pub returns-then-stamp-newest-clause-version : goal.returns-then-stamp-newest-cl
 returns-then-stamp-newest-clause-version c =
     let headers = ap (λ (t : TableLists). length t.headers) c.self.view_is in
     let within : c.args.obj < length c.self.inside.headers.items = omega (arith, c.requires.header) in
-    let changed : c.forward_to.new.self ≡ sent c.keep-target.result c.self.inside.lanes c.index_mut.result.now = headers_of_same_parts c.forward_to.new.self (sent c.keep-target.result c.self.inside.lanes c.index_mut.result.now) c.forward_to.ensures.stamp c.forward_to.ensures.forward in
+    let changed : c.forward_to.new.self ≡ sent c.keep-target.result c.self.inside.lanes c.index_mut.result.now =
+    headers_of_same_parts c.forward_to.new.self (sent c.keep-target.result c.self.inside.lanes c.index_mut.result.now) c.forward_to.ensures.stamp c.forward_to.ensures.forward in
     let put = set_is_adjusted (sent c.keep-target.result c.self.inside.lanes) c.self.inside.headers.items c.args.obj c.index_mut.result.now within c.index_mut.ensures.value in
     rw (← c.self.view_is) record {
       header = c.index.result.now;

@@ -12,7 +12,8 @@ returns c =
     let never : Forward = record { epoch = 0; target = Gone } in
     let untouched : Header = record { stamp = 0; forward = replicate 8 never } in
     let all : c.in_ok-vec.field-0.items ≡ replicate n untouched = search rules in
-    let header : (obj : ℕ) (h : Header) → slice_get c.in_ok-vec.field-0.items obj ≡ Some h → h ≡ untouched = λ obj h e. replicated_is_one n untouched obj h (ap (λ hs. slice_get hs obj) (sym all) ∙ e) in
+    let header : (obj : ℕ) (h : Header) → slice_get c.in_ok-vec.field-0.items obj ≡ Some h → h ≡ untouched =
+    λ obj h e. replicated_is_one n untouched obj h (ap (λ hs. slice_get hs obj) (sym all) ∙ e) in
     record {
       heap = c.in_ok-make.ensures.first;
       room = c.in_ok-make.ensures.room;

@@ -15,7 +15,8 @@ pub returns-clause-cell : goal.returns-clause-cell
 returns-clause-cell c =
     let f = c.self.inside in
     let before = subst (λ (t : TableLists). IsSome (word_at (heap_of t.heap) c.args.obj c.args.field)) (sym c.self.view_is) c.requires.cell in
-    subst (λ (heap : Heap). IsSome (word_at heap c.args.obj c.args.field)) (sym c.set.ensures.set) (set_keeps_cells (heap_of f.heap) c.args.obj c.args.field c.args.value c.args.obj c.args.field before)
+    subst (λ (heap : Heap). IsSome (word_at heap c.args.obj c.args.field)) (sym c.set.ensures.set)
+    (set_keeps_cells (heap_of f.heap) c.args.obj c.args.field c.args.value c.args.obj c.args.field before)
 
 pub returns-clause-headers : goal.returns-clause-headers
 returns-clause-headers c = length-set c.self.inside.headers.items c.args.obj _ ∙ ap (λ (t : TableLists). length t.headers) c.self.view_is

@@ -9,7 +9,9 @@ invariant_of-self-2 c =
     let f = c.self.inside in
     let lane = c.in-Ok.lane in
     let event = Launch c.args.m 0 lane.number (record { count = 0; words = 0 ∷ 0 ∷ 0 ∷ 0 ∷ [] }) in
-    let d = driven_with_all_lanes f.heap c.launch.new.self event f.sizes f.width f.objects.items f.checks.items c.self.invariant c.in-Ok.ensures.event c.in-Ok.ensures.legal c.in-Ok.ensures.others in
+    let d = driven_with_all_lanes f.heap c.launch.new.self event f.sizes f.width f.objects.items f.checks.items c.self.invariant c.in-Ok.ensures.event
+    c.in-Ok.ensures.legal c.in-Ok.ensures.others in
     driven_with_pushed c.launch.new.self f.sizes f.width f.objects.items f.checks.items c.push.new.self.items lane (is_ok c.push.result) d
-    (driven_after_launch f.heap c.launch.new.self f.sizes f.width c.args.m 0 (record { count = 0; words = 0 ∷ 0 ∷ 0 ∷ 0 ∷ [] }) lane f.objects.items f.checks.items c.self.invariant d c.in-Ok.ensures.event c.in-Ok.ensures.lane c.in-Ok.ensures.fresh)
+    (driven_after_launch f.heap c.launch.new.self f.sizes f.width c.args.m 0
+    (record { count = 0; words = 0 ∷ 0 ∷ 0 ∷ 0 ∷ [] }) lane f.objects.items f.checks.items c.self.invariant d c.in-Ok.ensures.event c.in-Ok.ensures.lane c.in-Ok.ensures.fresh)
     c.push.ensures.items

@@ -9,7 +9,8 @@ loop-index-preserved c =
     let i = c.loop-index.invariant in
     let e = Load c.args.m c.index.result.now.0 0 c.load-sum.result in
     record {
-      driven = driven_with_all_lanes f.heap c.load-sum.new.self e f.sizes f.width f.objects.items f.checks.items i.driven c.load-sum.ensures.event c.load-sum.ensures.legal (λ lane is. ap (λ (ls : List (Option ℕ)). slice_get ls lane.index) c.load-sum.ensures.lanes ∙ is);
+      driven = driven_with_all_lanes f.heap c.load-sum.new.self e f.sizes f.width f.objects.items f.checks.items i.driven c.load-sum.ensures.event
+          c.load-sum.ensures.legal (λ lane is. ap (λ (ls : List (Option ℕ)). slice_get ls lane.index) c.load-sum.ensures.lanes ∙ is);
       thread = rw c.load-sum.ensures.event i.thread;
       spare = rw c.load-sum.ensures.event (omega (arith, i.spare, c.loop-index-test.true, length-append f.heap.journal (e ∷ [])));
     }

@@ -16,7 +16,11 @@ invariant_of-self c =
     let lane = c.remove-lane.result in
     let within : c.args.check < length held = omega (arith, f.checks.ok.0) in
     let found : slice_get held c.args.check ≡ Some lane = slice_get-get_or held c.args.check lane within ∙ ap Some (sym c.remove-lane.ensures.value) in
-    let others : All (λ (other : Lane). other.number ≢ lane.number) rest = subst (λ (xs : List Lane). All (λ (other : Lane). other.number ≢ lane.number) xs) (sym c.remove-lane.ensures.items) (removed_is_apart held c.args.check lane found c.self.invariant.apart) in
-    let d : IsDriven f.heap f.sizes f.width f.objects.items rest = subst (λ (xs : List Lane). IsDriven f.heap f.sizes f.width f.objects.items xs) (sym c.remove-lane.ensures.items) (driven_with_one_less f.heap f.sizes f.width f.objects.items held c.args.check within c.self.invariant) in
+    let others : All (λ (other : Lane). other.number ≢ lane.number) rest =
+    subst (λ (xs : List Lane). All (λ (other : Lane). other.number ≢ lane.number) xs) (sym c.remove-lane.ensures.items)
+    (removed_is_apart held c.args.check lane found c.self.invariant.apart) in
+    let d : IsDriven f.heap f.sizes f.width f.objects.items rest =
+    subst (λ (xs : List Lane). IsDriven f.heap f.sizes f.width f.objects.items xs) (sym c.remove-lane.ensures.items)
+    (driven_with_one_less f.heap f.sizes f.width f.objects.items held c.args.check within c.self.invariant) in
     driven_with_held_lanes f.heap c.retire.new.self (Retire c.args.m lane.number) f.sizes f.width f.objects.items rest d c.retire.ensures.event c.retire.ensures.legal
     (λ k x lt is. c.retire.ensures.others (get_or rest k x) (others k x lt) is)

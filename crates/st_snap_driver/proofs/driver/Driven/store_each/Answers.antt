@@ -14,7 +14,8 @@ loop-index-preserved c =
     let i = c.loop-index.invariant in
     let e = Store c.args.m c.index.result.now.0 0 c.args.value in
     record {
-      driven = driven_with_all_lanes f.heap c.store.new.self e f.sizes f.width f.objects.items f.checks.items i.driven c.store.ensures.event c.store.ensures.legal (λ lane is. ap (λ (ls : List (Option ℕ)). slice_get ls lane.index) c.store.ensures.lanes ∙ is);
+      driven = driven_with_all_lanes f.heap c.store.new.self e f.sizes f.width f.objects.items f.checks.items i.driven c.store.ensures.event
+          c.store.ensures.legal (λ lane is. ap (λ (ls : List (Option ℕ)). slice_get ls lane.index) c.store.ensures.lanes ∙ is);
       thread = rw c.store.ensures.event i.thread;
       spare = rw c.store.ensures.event (omega (arith, i.spare, c.loop-index-test.true, length-append f.heap.journal (e ∷ [])));
     }

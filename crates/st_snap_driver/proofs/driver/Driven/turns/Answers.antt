@@ -17,7 +17,8 @@ loop-preserved c =
     let two = ap (λ (s : Snapshots). length s.journal) c.retire.ensures.event ∙ length-append c.launch.new.self.journal (r ∷ []) in
     let room : event_room c.retire.new.self.sizes ≡ event_room f.heap.sizes = rw (c.retire.ensures.event, c.in-Ok.ensures.event) refl in
     record {
-      driven = driven_with_held_lanes c.launch.new.self c.retire.new.self r f.sizes f.width f.objects.items f.checks.items d c.retire.ensures.event c.retire.ensures.legal (λ k x lt is. c.retire.ensures.others (get_or f.checks.items k x) (c.in-Ok.ensures.fresh (get_or f.checks.items k x) (i.driven.lanes k x lt).is) is);
+      driven = driven_with_held_lanes c.launch.new.self c.retire.new.self r f.sizes f.width f.objects.items f.checks.items d c.retire.ensures.event
+          c.retire.ensures.legal (λ k x lt is. c.retire.ensures.others (get_or f.checks.items k x) (c.in-Ok.ensures.fresh (get_or f.checks.items k x) (i.driven.lanes k x lt).is) is);
       thread = rw (c.retire.ensures.event, c.in-Ok.ensures.event) i.thread;
       spare = omega (arith, i.spare, c.loop-test.true, room, longer, two);
     }
