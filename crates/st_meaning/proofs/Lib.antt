@@ -1,0 +1,6 @@
+pub mod CheckExamples
+pub mod CheckLemmas
+pub mod CourseLemmas
+pub mod FollowedLemmas
+pub mod SafeLemmas
+pub mod TermExamples

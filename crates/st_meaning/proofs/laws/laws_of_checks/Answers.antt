@@ -1,0 +1,14 @@
+use Rattle.st_meaning.proofs.CheckLemmas as lemmas
+use Rattle.st_meaning.proofs.laws.laws_of_checks.Goals as goal
+
+pub returns-clause-cells : goal.returns-clause-cells
+returns-clause-cells c = λ p heap other site args calls h. lemmas.checks_depend_on_their_cells p heap other site args calls h
+
+pub returns-clause-exist : goal.returns-clause-exist
+returns-clause-exist c = λ shape p heap site kinds args calls right typed e fit. lemmas.checks_read_cells_that_exist shape p heap site kinds args calls right typed e fit
+
+pub returns-clause-kinds : goal.returns-clause-kinds
+returns-clause-kinds c = λ shape p heap site kinds args right typed e fit. lemmas.checks_are_safe shape p heap site kinds args right typed e fit
+
+pub returns-clause-plain : goal.returns-clause-plain
+returns-clause-plain c = λ shape heap kinds t kind locals calls typed h fit. lemmas.plain_expressions_are_safe shape heap kinds t kind locals calls typed h fit

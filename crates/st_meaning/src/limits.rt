@@ -1,0 +1,4 @@
+//! The most of what a check may do that no size of a run sets.
+
+/// The most predicate calls that may be open at a time. One more is Deep. The check's own expression stands at depth 0.
+pub const MOST_DEPTH: usize = 4_096;
