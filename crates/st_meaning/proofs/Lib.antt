@@ -4,3 +4,4 @@ pub mod CourseLemmas
 pub mod FollowedLemmas
 pub mod SafeLemmas
 pub mod TermExamples
+pub mod TurnLemmas

@@ -1,5 +1,5 @@
 -- Laws of all checks.
-use Rattle.std.specs.Prelude.{◌≡◌, ℕ, List, All, Some, slice_get}
+use Rattle.std.specs.Prelude.{drop, ◌≡◌, ℕ, List, All, Some, slice_get}
 use Rattle.st_events.specs.declared.shapes.Kind.{Kind}
 use Rattle.st_events.specs.declared.shapes.Kind.TheVariants.{Bool as Truth}
 use Rattle.st_events.specs.Heap.{Heap, word_at}
@@ -9,7 +9,9 @@ use Rattle.st_program.specs.Kinds.{HasKind}
 use Rattle.st_program.specs.Terms.{Term, Program}
 use Rattle.st_program.specs.WellFormed.{IsWellFormed, plain_setting}
 use Rattle.st_meaning.specs.Meaning.{Calls, course_of}
-use Rattle.st_meaning.specs.Plain.{Cell, plain_value, cells_read, check_course}
+use Rattle.st_meaning.specs.Courses.{Course}
+use Rattle.st_meaning.specs.Turns.{turn_of, turn_after, followed_from, words_of_first, IsTurnFor}
+use Rattle.st_meaning.specs.Plain.{followed, Cell, plain_value, cells_read, check_course}
 use Rattle.st_meaning.specs.Safe.{IsWordAt, IsSafe, IsOfKind, AreOfKinds}
 
 -- both heaps have the same at the cell: the same word, or no such cell
@@ -60,3 +62,15 @@ PlainExpressionsMeetTheirKinds =
     → HasKind (plain_setting shape kinds) t kind
     → AreOfKinds heap kinds locals
     → IsSafe shape heap (IsOfKind heap kind) (course_of calls t locals)
+
+-- to follow a course is to take its first turn, and to follow from there
+abbrev pub FollowByTurns : Type 0
+FollowByTurns = (heap : Heap) (c : Course ℕ) (units : ℕ) → followed heap c units ≡ followed_from heap (turn_of c units)
+
+-- a check that was answered by the words of the first k cells that it reads asks for the cell after these; where there is none, it is
+-- over with its plain value
+abbrev pub AskInOrder : Type 0
+AskInOrder =
+    (p : Program) (heap : Heap) (site : ℕ) (args : List ℕ) (calls k : ℕ)
+    → IsTurnFor (drop k (cells_read p heap site args calls)) (plain_value p heap site args calls)
+    (turn_after (words_of_first heap k (cells_read p heap site args calls)) (turn_of (check_course p site args) calls))

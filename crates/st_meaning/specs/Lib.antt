@@ -4,3 +4,4 @@ pub mod Meaning
 pub mod Numbers
 pub mod Plain
 pub mod Safe
+pub mod Turns

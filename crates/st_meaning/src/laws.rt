@@ -1,5 +1,5 @@
 //! Laws of all checks, over the definitions of this crate. Nothing is computed: the call states theorems, by its clauses.
-ghost use Rattle.st_meaning.specs.Laws.{DependOnTheirCells, ReadCellsThatExist, MeetTheirKinds, PlainExpressionsMeetTheirKinds};
+ghost use Rattle.st_meaning.specs.Laws.{DependOnTheirCells, ReadCellsThatExist, MeetTheirKinds, PlainExpressionsMeetTheirKinds, FollowByTurns, AskInOrder};
 
 /// What holds of all checks, of every program, on all heaps.
 pub fn laws_of_checks()
@@ -7,4 +7,6 @@ pub fn laws_of_checks()
     ensures exist { ReadCellsThatExist }
     ensures kinds { MeetTheirKinds }
     ensures plain { PlainExpressionsMeetTheirKinds }
+    ensures turns { FollowByTurns }
+    ensures order { AskInOrder }
 {}

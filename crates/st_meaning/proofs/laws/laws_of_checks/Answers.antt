@@ -1,4 +1,5 @@
 use Rattle.st_meaning.proofs.CheckLemmas as lemmas
+use Rattle.st_meaning.proofs.TurnLemmas as by_turns
 use Rattle.st_meaning.proofs.laws.laws_of_checks.Goals as goal
 
 pub returns-clause-cells : goal.returns-clause-cells
@@ -12,3 +13,9 @@ returns-clause-kinds c = λ shape p heap site kinds args right typed e fit. lemm
 
 pub returns-clause-plain : goal.returns-clause-plain
 returns-clause-plain c = λ shape heap kinds t kind locals calls typed h fit. lemmas.plain_expressions_are_safe shape heap kinds t kind locals calls typed h fit
+
+pub returns-clause-turns : goal.returns-clause-turns
+returns-clause-turns c = λ heap course units. by_turns.following_is_by_turns heap course units
+
+pub returns-clause-order : goal.returns-clause-order
+returns-clause-order c = λ p heap site args calls k. by_turns.checks_ask_in_order p heap site args calls k
