@@ -1,0 +1,144 @@
+-- A join of a mutator's seat into another keeps the rule.
+use Rattle.std.proofs.Common.{◌≡◌, ◌≢◌, ℕ, zero, suc, ◌+◌, ◌<◌, ◌≤◌, ◌⊎◌, true, false, List, [], ◌∷◌, ◌++◌}
+use Rattle.std.proofs.Common.{length, get_or, set, sym, refl, ap, subst, ◌∙◌, arith, ⊎_elim, inl, inr}
+use Rattle.std.specs.Prelude.{All}
+use mathlib.Core.Logic.{dite}
+use mathlib.Core.List.{IsPrefix}
+use mathlib.Core.Option.{some}
+use native.Mathlib.Decide.{ℕ_discrete}
+use lib.ListN.{get_elem?}
+use Rattle.atomic_table.specs.Table.{State, Joins}
+use Rattle.atomic_table.proofs.Lists.{at_set, set_else}
+use Rattle.st_layout.specs.Names.{ClosingWord, ClockWord, FlagWord}
+use Rattle.st_events.specs.declared.events.Event.{Event}
+use Rattle.st_events.specs.World.{is_among}
+use Rattle.st_rule.specs.declared.views.JoinedView.{JoinedView}
+use Rattle.st_rule.specs.declared.views.Phase.{Phase}
+use Rattle.st_rule.specs.declared.views.Phase.TheVariants.{Outside, Inside, Alone}
+use Rattle.st_rule.specs.declared.views.MutView.{MutView}
+use Rattle.st_rule.specs.declared.views.View.{View}
+use Rattle.st_rule.specs.declared.views.View.TheVariants.{Mut, Lane, Gone}
+use Rattle.st_rule.specs.Parts.{Sits, JournalPart, GatePart, HandPart, Seating}
+use Rattle.st_rule.specs.Rule.{Told, Moment, HoldsAt, IsSoundTable}
+use Rattle.st_rule.specs.Turns.{joined_with, longer}
+use Rattle.st_rule.specs.Views.{seen_by, is_closer}
+use Rattle.st_rule.proofs.PrefixLemmas.{prefix_empty, IsLonger, longer_is, longer_whole}
+use Rattle.st_rule.proofs.TurnLemmas.{all_further}
+use Rattle.st_rule.proofs.ViewLemmas.{set_there, sits_once, mut_is, all_set, all_mut_set}
+
+gone_is_no_mutator : (u : MutView) → Gone ≡ Mut u → ⊥
+gone_is_no_mutator u e = absurd cc
+
+-- one more joined list
+all_joined : (j : JoinedView) (joined : List JoinedView) (seen : List Event) → IsPrefix j.seen seen → All (λ x. IsPrefix x.seen seen) joined → All (λ x. IsPrefix x.seen seen) (j ∷ joined)
+all_joined j joined seen first rest zero d within = first
+all_joined j joined seen first rest (suc k) d within = rest k d (omega (arith, within))
+
+module _ (told : Told) (id : ℕ) (v : MutView) (other : ℕ) (u : MutView) (m : Moment) (words : List ℕ) (views : List View) (h : HoldsAt told m words views)
+    (sits : Sits views id (Mut v)) (apart : other ≢ id) (sits' : Sits views other (Mut u)) (outside : u.gate.phase ≡ Outside) where
+  abbrev b : MutView
+  b = joined_with v u
+
+  abbrev views' : List View
+  views' = set (set views id (Mut b)) other Gone
+
+  all_join :
+      (P : ℕ → MutView → Type 0) → P id b
+      → ((j : ℕ) (x : MutView) → j ≢ id → j ≢ other → Sits views j (Mut x) → P j x)
+      → (j : ℕ) (x : MutView) → Sits views' j (Mut x) → P j x
+  all_join P here others j x there = ⊎_elim
+      (λ gone. absurd (gone_is_no_mutator x gone.1))
+      (λ old. ⊎_elim
+      (λ same. subst (λ (p : ℕ × MutView). P p.0 p.1) (λ k. (sym same.0 k, mut_is b x same.1 k)) here)
+      (λ rest. others j x rest.0 old.0 rest.1)
+      (at_set views id j (Mut b) (Mut x) old.1))
+      (at_set (set views id (Mut b)) other j Gone (Mut x) there)
+
+  lists : IsLonger v.journal.seen u.journal.seen m.journal
+  lists = longer_is v.journal.seen u.journal.seen m.journal (h.journal_part.prefixes id (Mut v) sits) (h.journal_part.prefixes other (Mut u) sits')
+
+  both_sit : Sits views' id (Mut b)
+  both_sit = set_else (set views id (Mut b)) other id Gone (λ e. apart (sym e)) ∙ set_there views id (Mut v) (Mut b) sits
+
+  still_sits : (j : ℕ) (x : View) → j ≢ id → j ≢ other → Sits views j x → Sits views' j x
+  still_sits j x not_id not_other there = set_else (set views id (Mut b)) other j Gone not_other ∙ set_else views id j (Mut b) not_id ∙ there
+
+  whole_seen : (m.journal ≡ v.journal.seen) ⊎ (m.journal ≡ u.journal.seen) → b.journal.seen ≡ m.journal
+  whole_seen = longer_whole v.journal.seen u.journal.seen m.journal (h.journal_part.prefixes id (Mut v) sits) (h.journal_part.prefixes other (Mut u) sits')
+
+  journal_joined : JournalPart told.terms m.journal (m.board ClockWord) views'
+  journal_joined = record {
+    legal = h.journal_part.legal;
+    prefixes = all_set (λ j x. IsPrefix (seen_by x) m.journal) (set views id (Mut b)) other Gone (prefix_empty m.journal)
+        (λ j x not_other there. all_set (λ j x. IsPrefix (seen_by x) m.journal) views id (Mut b) lists.within (λ j x not_id at_j. h.journal_part.prefixes j x at_j) j x there);
+    seen_whole = let whole = h.journal_part.seen_whole in dite (ℕ_discrete whole.0 id)
+        (λ same. (id, Mut b, both_sit, whole_seen (inl (sym whole.3 ∙ ap seen_by (sits_once views id whole.1 (Mut v) (subst (λ k. Sits views k whole.1) same whole.2) sits)))))
+        (λ not_id. dite (ℕ_discrete whole.0 other)
+        (λ same. (id, Mut b, both_sit, whole_seen (inr (sym whole.3 ∙ ap seen_by (sits_once views other whole.1 (Mut u) (subst (λ k. Sits views k whole.1) same whole.2) sits')))))
+        (λ not_other. (whole.0, whole.1, still_sits whole.0 whole.1 not_id not_other whole.2, whole.3)));
+    tickets = h.journal_part.tickets;
+    copies_drawn = h.journal_part.copies_drawn;
+  }
+
+  gate_joined : GatePart told.terms.sizes.mutators (λ n. m.board (FlagWord n)) (m.board ClosingWord) m.phase m.seat m.split m.journal views'
+  gate_joined = record {
+    flags = h.gate_part.flags;
+    closer = h.gate_part.closer;
+    nobody_closes = h.gate_part.nobody_closes;
+    clear = all_join (λ j x. is_closer x.gate.phase ≡ true → (n : ℕ) → is_among x.gate.clear n ≡ true → m.phase n ≢ Inside)
+        (h.gate_part.clear id v sits) (λ j x not_id not_other there. h.gate_part.clear j x there);
+    alone_saw_all = all_join (λ j x. x.gate.phase ≡ Alone → (n : ℕ) → n ≤ told.terms.sizes.mutators → n ≢ x.gate.number → is_among x.gate.clear n ≡ true)
+        (h.gate_part.alone_saw_all id v sits) (λ j x not_id not_other there. h.gate_part.alone_saw_all j x there);
+    alone_saw_journal = all_join (λ j x. x.gate.phase ≡ Alone → x.journal.seen ≡ m.journal)
+        (λ alone. whole_seen (inl (sym (h.gate_part.alone_saw_journal id v sits alone)))) (λ j x not_id not_other there. h.gate_part.alone_saw_journal j x there);
+    one_view_each = all_join (λ j x. m.seat x.gate.number ≡ j) (h.gate_part.one_view_each id v sits) (λ j x not_id not_other there. h.gate_part.one_view_each j x there);
+    split_off = all_join (λ j x. x.gate.number < told.terms.sizes.mutators → x.gate.number < m.split)
+        (h.gate_part.split_off id v sits) (λ j x not_id not_other there. h.gate_part.split_off j x there);
+  }
+
+  hands_joined : HandPart views'
+  hands_joined = record {
+    joined = all_join (λ j x. All (λ y. IsPrefix y.seen x.journal.seen) x.hands.joined)
+        (all_joined (record { number = u.gate.number; seen = u.journal.seen; entries = u.journal.entries }) v.hands.joined b.journal.seen lists.that
+        (all_further v.hands.joined v.journal.seen b.journal.seen lists.this (h.hand_part.joined id v sits)))
+        (λ j x not_id not_other there. h.hand_part.joined j x there);
+  }
+
+  seating_joined : Seating told.terms m.phase m.seat m.split views'
+  seating_joined = record {
+    phases = all_join (λ j x. m.phase x.gate.number ≡ x.gate.phase) (h.seating.phases id v sits) (λ j x not_id not_other there. h.seating.phases j x there);
+    numbers = all_join (λ j x. x.gate.number ≤ told.terms.sizes.mutators) (h.seating.numbers id v sits) (λ j x not_id not_other there. h.seating.numbers j x there);
+    told = all_join (λ j x. x.terms ≡ told.terms) (h.seating.told id v sits) (λ j x not_id not_other there. h.seating.told j x there);
+    counts = all_join (λ j x. x.gate.number ≡ told.terms.sizes.mutators → x.gate.split ≡ m.split) (h.seating.counts id v sits) (λ j x not_id not_other there. h.seating.counts j x there);
+    seated = λ n. ⊎_elim (λ out. inl out)
+        (λ there. dite (ℕ_discrete (m.seat n) other)
+        (λ gone. inl (
+        ap m.phase (sym there.2 ∙ ap (λ (x : MutView). x.gate.number) (mut_is there.0 u (sits_once views other (Mut there.0) (Mut u) (subst (λ k. Sits views k (Mut there.0)) gone there.1) sits')))
+        ∙ h.seating.phases other u sits' ∙ outside))
+        (λ not_other. inr (dite (ℕ_discrete (m.seat n) id)
+        (λ same. (
+          b,
+          subst (λ k. Sits views' k (Mut b)) (sym same) both_sit,
+          ap (λ (x : MutView). x.gate.number) (mut_is v there.0 (sits_once views id (Mut v) (Mut there.0) sits (subst (λ k. Sits views k (Mut there.0)) same there.1))) ∙ there.2,
+        ))
+        (λ not_id. (there.0, still_sits (m.seat n) (Mut there.0) not_id not_other there.1, there.2)))))
+        (h.seating.seated n);
+  }
+
+  join_keeps_at : HoldsAt told m words views'
+  join_keeps_at = record {
+    limits = h.limits;
+    displayed = h.displayed;
+    journal_part = journal_joined;
+    gate_part = gate_joined;
+    hand_part = hands_joined;
+    seating = seating_joined;
+  }
+
+-- whatever the table is, the join keeps the rule
+pub join_keeps :
+    (told : Told) (id : ℕ) (v : MutView) (other : ℕ) (u : MutView)
+    → u.gate.phase ≡ Outside
+    → Joins (IsSoundTable told) id (Mut v) other (Mut u) (Mut (joined_with v u)) Gone
+join_keeps told id v other u outside s sound sits apart sits' =
+    (sound.0, join_keeps_at told id v other u sound.0 s.words s.views sound.1 sits apart (sym (set_else s.views id other (Mut (joined_with v u)) apart) ∙ sits') outside)

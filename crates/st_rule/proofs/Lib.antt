@@ -1,0 +1,11 @@
+pub mod BoardLemmas
+pub mod PrefixLemmas
+pub mod ViewLemmas
+pub mod TurnLemmas
+pub mod GateLemmas
+pub mod GateSteps
+pub mod SeatLemmas
+pub mod SplitLemmas
+pub mod JoinLemmas
+pub mod StartLemmas
+pub mod WordLemmas

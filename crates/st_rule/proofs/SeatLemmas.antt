@@ -1,0 +1,133 @@
+-- From what a step tells its seat to what contracts say of it.
+use Rattle.std.proofs.Common.{◌≡◌, ℕ, ◌+◌, ◌-◌, ◌==◌, ◌≤◌, IsTrue, Bool, true, false, List, [], Option, Some, sym, refl, ap, subst, ◌∙◌}
+use Rattle.std.proofs.Common.{arith, eq-eqb, eqb-true}
+use Rattle.std.proofs.lemmas.Bool.Decides.{nat_tests}
+use mathlib.Core.Logic.{◌↔◌}
+use mathlib.Core.List.{IsPrefix}
+use Rattle.st_layout.specs.declared.words.TheConstants.{FIRST_FLAG}
+use Rattle.st_layout.specs.declared.plans.Plan.{Plan}
+use Rattle.st_layout.specs.Names.{FlagWord}
+use Rattle.st_layout.specs.Layout.{word_of}
+use Rattle.st_events.specs.declared.events.Event.{Event}
+use Rattle.std.specs.List.{sum_by, count_by}
+use Rattle.st_events.specs.declared.limits.Sizes.{Sizes}
+use Rattle.st_events.specs.History.{is_new}
+use Rattle.st_events.specs.Legal.{IsLegal}
+use Rattle.st_rule.specs.declared.views.Entry.{Entry}
+use Rattle.st_rule.specs.declared.views.MutView.{MutView}
+use Rattle.st_rule.specs.declared.views.View.{View}
+use Rattle.st_rule.specs.declared.views.View.TheVariants.{Mut}
+use Rattle.st_rule.specs.Plays.{Seated, Becomes, Learns, Finds, FindsAndLearns}
+use Rattle.st_rule.specs.SeatValue.{KeepsSeat, charge_of, charge_spent, objects_made, whole_charge, whole_region}
+use Rattle.st_rule.specs.Turns.{looked, looked_at, took, took_gate, saw_flag, saw, number_of_flag}
+use Rattle.st_rule.specs.Views.{mutator_of}
+
+-- what a step leaves of what the seat's struct keeps
+pub record Steady (v w : MutView) : Type 0 where
+  pub terms : w.terms ≡ v.terms
+  pub number : w.gate.number ≡ v.gate.number
+  pub entries : w.journal.entries ≡ v.journal.entries
+
+steady_count : {v w : MutView} (P : List Entry → Sizes → ℕ → Type 0) → Steady v w → P v.journal.entries v.terms.sizes v.gate.number → P w.journal.entries w.terms.sizes w.gate.number
+steady_count P steady p = subst (λ (t : List Entry × Sizes × ℕ). P t.0 t.1 t.2) (λ k. (sym steady.entries k, (sym steady.terms k).sizes, sym steady.number k)) p
+
+pub looked_steady : (b : Bool) (word : ℕ) (v : MutView) → Steady v (looked_at b word v)
+looked_steady true word v = record { terms = refl; number = refl; entries = refl }
+looked_steady false word v = record { terms = refl; number = refl; entries = refl }
+
+took_steady : (b : Bool) (word : ℕ) (seen : List Event) (v : MutView) → Steady v (took b word seen v)
+took_steady true word seen v = record { terms = refl; number = refl; entries = refl }
+took_steady false word seen v = record { terms = refl; number = refl; entries = refl }
+
+took_legal :
+    (b : Bool) (word : ℕ) (seen : List Event) (v : MutView)
+    → IsLegal v.terms.shape v.terms.sizes seen → IsLegal v.terms.shape v.terms.sizes v.journal.seen
+    → IsLegal v.terms.shape v.terms.sizes (took b word seen v).journal.seen
+took_legal true word seen v legal before = legal
+took_legal false word seen v legal before = before
+
+saw_steady : (b : Bool) (n word : ℕ) (seen : List Event) (v : MutView) → Steady v (saw_flag b n word seen v)
+saw_steady true n word seen v = record { terms = refl; number = refl; entries = refl }
+saw_steady false n word seen v = record { terms = refl; number = refl; entries = refl }
+
+saw_legal :
+    (b : Bool) (n word : ℕ) (seen : List Event) (v : MutView)
+    → IsLegal v.terms.shape v.terms.sizes seen → IsLegal v.terms.shape v.terms.sizes v.journal.seen
+    → IsLegal v.terms.shape v.terms.sizes (saw_flag b n word seen v).journal.seen
+saw_legal true n word seen v legal before = legal
+saw_legal false n word seen v legal before = before
+
+-- the number whose flag a place is
+pub number_of_place : (plan : Plan) (n place : ℕ) → place ≡ word_of plan (FlagWord n) → number_of_flag place ≡ n
+unfolding word_of
+number_of_place plan n place is = omega (arith, is)
+
+module _ {before : Seated} {number spare room : ℕ} {entries : List Entry} (keeps : KeepsSeat before number spare room entries) where
+  abbrev pub v : MutView
+  v = mutator_of before.0
+
+  pub v_is : before.0 ≡ Mut v
+  v_is = ap (λ m. m.0) keeps.mutator
+
+  module _ {after : Seated} where
+    pub seat_kept : (w : MutView) → after.0 ≡ Mut w → after.1 ≡ before.1 → Steady v w → IsLegal w.terms.shape w.terms.sizes w.journal.seen → KeepsSeat after number spare room entries
+    seat_kept w is slots steady legal =
+        let same : w ≡ mutator_of after.0 = sym (ap mutator_of is) in
+        let view : (P : MutView → Type 0) → P w → P (mutator_of after.0) = λ P p. subst P same p in
+        record {
+          mutator = λ k. ((is ∙ ap Mut same) k, (slots ∙ ap (λ m. m.1) keeps.mutator) k);
+          number_is = keeps.number_is ∙ sym steady.number ∙ ap (λ (u : MutView). u.gate.number) same;
+          within = view (λ u. number ≤ u.terms.sizes.mutators) (subst (λ t. number ≤ t.sizes.mutators) (sym steady.terms) keeps.within);
+          legal = view (λ u. IsLegal u.terms.shape u.terms.sizes u.journal.seen) legal;
+          entries_are = keeps.entries_are ∙ sym steady.entries ∙ ap (λ (u : MutView). u.journal.entries) same;
+          spare_is = view (λ u. spare + charge_spent u ≡ whole_charge u.terms.sizes u.gate.number)
+              (steady_count (λ es sizes n. spare + sum_by (λ e. charge_of e.event) es ≡ whole_charge sizes n) steady keeps.spare_is);
+          room_is = view (λ u. room + objects_made u ≡ whole_region u.terms.sizes u.gate.number)
+              (steady_count (λ es sizes n. room + count_by (λ e. is_new e.event) es ≡ whole_region sizes n) steady keeps.room_is);
+        }
+
+    -- a step that leaves the list seen
+    pub kept_at :
+        (change : ℕ → MutView → MutView) (word : ℕ)
+        → Becomes change before word after → Steady v (change word v) → (change word v).journal ≡ v.journal
+        → KeepsSeat after number spare room entries
+    kept_at change word becomes steady same = seat_kept (change word v) (becomes.view v v_is) becomes.slots steady
+        (subst (λ t. IsLegal t.shape t.sizes (change word v).journal.seen) (sym steady.terms) (subst (λ j. IsLegal v.terms.shape v.terms.sizes j.seen) (sym same) keeps.legal))
+
+    pub changed_at : (change : ℕ → MutView → MutView) (word : ℕ) → Becomes change before word after → (old : MutView) → v ≡ old → Finds change old (mutator_of after.0)
+    changed_at change word becomes old is = record { word = word; view = ap mutator_of (becomes.view v v_is) ∙ ap (change word) is }
+
+    -- a step that may show more of the journal
+    pub learned_at :
+        (change : ℕ → List Event → MutView → MutView) (word : ℕ) → Learns change before word after
+        → (old : MutView) → v ≡ old → FindsAndLearns change old (mutator_of after.0)
+    learned_at change word learns old is = record {
+      word = word;
+      seen = learns.seen;
+      view = ap mutator_of (learns.view v v_is) ∙ ap (change word learns.seen) is;
+      goes_on = subst (λ (u : MutView). IsPrefix u.journal.seen learns.seen) is (learns.goes_on v v_is);
+      legal = subst (λ (u : MutView). IsLegal u.terms.shape u.terms.sizes learns.seen) is (learns.legal v v_is);
+    }
+
+    -- close
+    pub took_kept : (word : ℕ) → Learns took_gate before word after → KeepsSeat after number spare room entries
+    took_kept word learns = seat_kept (took_gate word learns.seen v) (learns.view v v_is) learns.slots (took_steady (word == 0) word learns.seen v)
+        (took_legal (word == 0) word learns.seen v (learns.legal v v_is) keeps.legal)
+
+    -- see
+    pub saw_kept : (n word : ℕ) → Learns (saw n) before word after → KeepsSeat after number spare room entries
+    saw_kept n word learns = seat_kept (saw n word learns.seen v) (learns.view v v_is) learns.slots (saw_steady (word == 0) n word learns.seen v)
+        (saw_legal (word == 0) n word learns.seen v (learns.legal v v_is) keeps.legal)
+
+some_is : (a b : ℕ) → Some a ≡ Some b → a ≡ b
+some_is a b e = cc
+
+T-is : (word : ℕ) → IsTrue (word == 0) → word ≡ 0
+T-is word t = grind (arith, nat_tests)
+
+is-T : (word : ℕ) → word ≡ 0 → IsTrue (word == 0)
+is-T word e = grind (arith, nat_tests)
+
+-- the answer of a step that asks whether the word is 0
+pub answers_zero : (word : ℕ) (found : Option ℕ) → found ≡ Some word → IsTrue (word == 0) ↔ (found ≡ Some 0)
+answers_zero word found is = ((λ zero_found. is ∙ ap Some (T-is word zero_found)), (λ zero_kept. is-T word (some_is word 0 (sym is ∙ zero_kept))))

@@ -1,0 +1,9 @@
+pub mod Board
+pub mod Views
+pub mod Turns
+pub mod Parts
+pub mod Rule
+pub mod Keys
+pub mod Plays
+pub mod SeatValue
+pub mod Seats

@@ -1,0 +1,125 @@
+-- What each step makes of the view of its seat.
+use Rattle.std.specs.Prelude.{◌≡◌, ℕ, zero, suc, ◌+◌, ◌-◌, ◌==◌, ◌&&◌, ◌||◌, Bool, true, false, if◌then◌else◌, List, [], ◌∷◌, length}
+use Rattle.std.specs.Prelude.{nat_lt, Some, None}
+use Rattle.st_layout.specs.declared.words.TheConstants.{FIRST_FLAG}
+use Rattle.st_events.specs.declared.events.Event.{Event}
+use Rattle.st_events.specs.World.{is_among}
+use Rattle.st_rule.specs.declared.views.Phase.{Phase}
+use Rattle.st_rule.specs.declared.views.Phase.TheVariants.{Outside, Entering, Inside, Closing, Alone}
+use Rattle.st_rule.specs.declared.views.Tally.{Tally}
+use Rattle.st_rule.specs.declared.views.GateView.{GateView}
+use Rattle.st_rule.specs.declared.views.MutView.{MutView}
+use Rattle.st_rule.specs.declared.views.View.{View}
+use Rattle.st_rule.specs.declared.views.View.TheVariants.{Mut, Lane, Gone}
+
+-- a step that stores is counted
+abbrev pub counted : Tally → Tally
+counted t = record { steps = t.steps + 1; found = t.found }
+
+-- a step that loads, exchanges or adds is counted, and leaves the word that it found
+abbrev pub counted_with : ℕ → Tally → Tally
+counted_with word t = record { steps = t.steps + 1; found = Some word }
+
+-- a split or a join is counted, and its load tells nothing
+abbrev pub counted_blind : Tally → Tally
+counted_blind t = record { steps = t.steps + 1; found = None }
+
+-- whether each number below `count`, but for the closer's own, is among those that it saw clear
+abbrev pub saw_below : ℕ → ℕ → List ℕ → Bool
+saw_below zero number clear = true
+saw_below (suc n) number clear = ((n == number) || is_among clear n) && saw_below n number clear
+
+-- the phase of a closer that saw these flags clear: Alone once it saw every other number, the main thread's among them
+abbrev pub closer_phase : ℕ → ℕ → List ℕ → Phase
+closer_phase mutators number clear = if saw_below (suc mutators) number clear then Alone else Closing
+
+-- the gate view of a closer that saw these flags clear
+abbrev pub closing : ℕ → List ℕ → GateView → GateView
+closing mutators clear g = record g { phase = closer_phase mutators g.number clear; clear = clear }
+
+-- flag in: Outside to Entering
+abbrev pub flagged_in : MutView → MutView
+flagged_in v = record v { tally = counted v.tally; gate = record v.gate { phase = Entering } }
+
+-- look: Entering to Inside, where the closing word is 0
+abbrev pub looked_at : Bool → ℕ → MutView → MutView
+looked_at is_open word v = record v { tally = counted_with word v.tally; gate = if is_open then record v.gate { phase = Inside } else v.gate }
+
+abbrev pub looked : ℕ → MutView → MutView
+looked word v = looked_at (word == 0) word v
+
+-- flag out: Entering or Inside to Outside
+abbrev pub flagged_out : MutView → MutView
+flagged_out v = record v { tally = counted v.tally; gate = record v.gate { phase = Outside } }
+
+-- close: Outside to Closing where the closing word was 0, and at once to Alone where there is no other number; the closer has
+-- then seen this list
+abbrev pub took : Bool → ℕ → List Event → MutView → MutView
+took was_open word seen v = record v {
+  tally = counted_with word v.tally;
+  gate = if was_open then closing v.terms.sizes.mutators [] v.gate else v.gate;
+  journal = if was_open then record v.journal { seen = seen } else v.journal;
+}
+
+abbrev pub took_gate : ℕ → List Event → MutView → MutView
+took_gate word seen v = took (word == 0) word seen v
+
+-- see: the flag of number `k` is seen where it is 0, and the closer is Alone once every other is; it has then seen this list
+abbrev pub saw_flag : Bool → ℕ → ℕ → List Event → MutView → MutView
+saw_flag is_clear k word seen v = record v {
+  tally = counted_with word v.tally;
+  gate = if is_clear then closing v.terms.sizes.mutators (k ∷ v.gate.clear) v.gate else v.gate;
+  journal = if is_clear then record v.journal { seen = seen } else v.journal;
+}
+
+abbrev pub saw : ℕ → ℕ → List Event → MutView → MutView
+saw k word seen v = saw_flag (word == 0) k word seen v
+
+-- open: Alone to Outside
+abbrev pub gave_gate : MutView → MutView
+gave_gate v = record v { tally = counted v.tally; gate = record v.gate { phase = Outside; clear = [] } }
+
+-- the number whose flag a word is
+abbrev pub number_of_flag : ℕ → ℕ
+number_of_flag word = word - FIRST_FLAG
+
+-- split, as the main thread sees it: one more mutator's seat is out
+abbrev pub split_one : MutView → MutView
+split_one v = record v { tally = counted_blind v.tally; gate = record v.gate { split = v.gate.split + 1 } }
+
+-- split, as the new seat sees it: it is the next mutator's, Outside, has seen what the main thread has, and has no events
+abbrev pub newcomer : MutView → MutView
+newcomer v = record {
+  terms = v.terms;
+  tally = record { steps = 0; found = None };
+  gate = record { number = v.gate.split; phase = Outside; clear = []; split = 0 };
+  journal = record { seen = v.journal.seen; entries = [] };
+  hands = record { joined = [] };
+}
+
+-- the longer of two lists, of which one begins the other
+abbrev pub longer : List Event → List Event → List Event
+longer xs ys = if nat_lt (length xs) (length ys) then ys else xs
+
+-- join: the view keeps what the other one has seen and its entries, and has itself seen the longer list
+abbrev pub joined_with : MutView → MutView → MutView
+joined_with v u = record v {
+  tally = counted_blind v.tally;
+  journal = record v.journal { seen = longer v.journal.seen u.journal.seen };
+  hands = record { joined = record { number = u.gate.number; seen = u.journal.seen; entries = u.journal.entries } ∷ v.hands.joined };
+}
+
+-- the same of views; only mutators' views are split or joined
+abbrev pub left_of : View → View
+left_of (Mut v) = Mut (split_one v)
+left_of (Lane l) = Lane l
+left_of Gone = Gone
+
+abbrev pub right_of : View → View
+right_of (Mut v) = Mut (newcomer v)
+right_of (Lane l) = Gone
+right_of Gone = Gone
+
+abbrev pub both_of : View → View → View
+both_of (Mut v) (Mut u) = Mut (joined_with v u)
+both_of x y = x

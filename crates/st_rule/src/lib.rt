@@ -1,0 +1,25 @@
+//! The table of words that threads share, its rule, and the seats with which they take steps on it.
+//! Each step is one call with its contract, and each keeps the rule, whatever the other threads did before.
+#![tactic(auto)]
+
+mod accesses;
+mod closing;
+mod keys;
+mod making;
+mod passing;
+mod places;
+mod plays;
+mod seats;
+mod steps;
+mod tables;
+#[cfg(test)]
+mod tests;
+mod views;
+
+pub use closing::Closed;
+pub use seats::{MutSeat, SeatLog};
+pub use tables::Shared;
+pub use views::{
+    Entry, GateView, HandsView, JoinedView, JournalView, LaneView, MutView, Phase, Tally, Terms,
+    View,
+};

@@ -1,0 +1,104 @@
+//! What a seat knows. No value of these types is made: they stand in proofs alone, and a step changes the view of its seat.
+//! A view is nested by the parts of the rule, and each part takes only its own.
+
+use st_events::{Event, Shape, Sizes};
+use std::collections::LinkedList;
+
+/// Where a mutator stands to the gate.
+#[derive(Clone, Copy, Debug, PartialEq, Eq)]
+pub enum Phase {
+    /// Its flag is 0, and it touches nothing.
+    Outside,
+    /// Its flag is 1, and it has not yet found the closing word 0.
+    Entering,
+    /// Its flag is 1, and it found the closing word 0 since.
+    Inside,
+    /// It has the closing word, and sees the other flags one by one.
+    Closing,
+    /// It has the closing word, and saw every other flag 0 since.
+    Alone,
+}
+
+/// What never changes: the shape of the program and the sizes of the run.
+pub struct Terms {
+    pub shape: Shape,
+    pub sizes: Sizes,
+}
+
+/// What a seat counts of its own steps.
+pub struct Tally {
+    /// How many atomic steps it took.
+    pub steps: u64,
+    /// The word that its last load, exchange or addition found; None where it took none yet, and after a split or a join,
+    /// whose load tells nothing.
+    pub found: Option<u64>,
+}
+
+/// What a mutator knows of the gate.
+pub struct GateView {
+    /// Its number; the main thread's is the number of mutators.
+    pub number: u8,
+    pub phase: Phase,
+    /// The numbers whose flags it saw 0 since it has the closing word.
+    pub clear: LinkedList<u8>,
+    /// In the main thread's view, how many mutators' seats it split off.
+    pub split: u8,
+}
+
+/// An event of a seat's own, with its ticket.
+#[derive(Clone, Copy, Debug, PartialEq, Eq)]
+pub struct Entry {
+    /// The index of the event in the journal, from 0.
+    pub ticket: u32,
+    pub event: Event,
+}
+
+/// What a mutator knows of the journal.
+pub struct JournalView {
+    /// The journal as far as it has seen it.
+    pub seen: LinkedList<Event>,
+    /// Its own events, in order.
+    pub entries: LinkedList<Entry>,
+}
+
+/// What a view keeps of a seat that it joined.
+pub struct JoinedView {
+    pub number: u8,
+    pub seen: LinkedList<Event>,
+    pub entries: LinkedList<Entry>,
+}
+
+/// What a mutator holds for others.
+pub struct HandsView {
+    /// The seats that it joined, the last one first.
+    pub joined: LinkedList<JoinedView>,
+}
+
+/// What a mutator's seat knows, or the main thread's.
+pub struct MutView {
+    pub terms: Terms,
+    pub tally: Tally,
+    pub gate: GateView,
+    pub journal: JournalView,
+    pub hands: HandsView,
+}
+
+/// What the seat of an active check knows. None is made yet.
+pub struct LaneView {
+    pub terms: Terms,
+    pub tally: Tally,
+    pub lane: u8,
+    /// The number of the check that it has in hand.
+    pub check: u32,
+    pub seen: LinkedList<Event>,
+}
+
+/// What a seat of the table knows.
+pub enum View {
+    /// A mutator's seat, or the main thread's.
+    Mut(MutView),
+    /// The seat of an active check.
+    Lane(LaneView),
+    /// A seat that was joined away.
+    Gone,
+}
