@@ -1,0 +1,4 @@
+pub mod ExclusionLemmas
+pub mod OtherLemmas
+pub mod LaterLemmas
+pub mod StepLemmas

@@ -1,0 +1,4 @@
+pub mod Phases
+pub mod Later
+pub mod Exclusion
+pub mod Others

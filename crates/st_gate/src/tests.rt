@@ -1,0 +1,221 @@
+//! The gate by one thread, and by three at once.
+ghost use Rattle.std.specs.Prelude.{◌≡◌};
+ghost use Rattle.std.specs.Thread.{IsSync};
+ghost use Rattle.st_events.specs.Sizes.{AreWithinLimits};
+ghost use Rattle.st_gate.specs.Later.{IsLater};
+ghost use Rattle.st_gate.specs.Phases.{IsOutside};
+ghost use Rattle.st_rule.specs.Rule.{first_view};
+ghost use Rattle.st_rule.specs.Seats.{IsSeatOf, sizes_of, terms_of};
+
+use crate::closing::see_others;
+use crate::{close_gate, enter, leave, open_gate};
+use st_events::{Judge, Shape, Sizes};
+use st_rule::{MutSeat, Shared};
+use std::alloc::Global;
+use std::marker::Model;
+use std::sync::Wait;
+use std::sync::atomic::{AtomicU64, Ordering};
+use std::test::Fail;
+use std::thread::{Threads, join};
+
+/// A judge to whom no verdict is right.
+#[derive(Drop)]
+struct Silent {
+    shape: Shape,
+}
+
+impl Model for Silent {
+    ghost use Rattle.st_events.specs.Shape.{ShapeLists, IsWithinLimits};
+
+    ghost Value = { ShapeLists };
+
+    ghost view = { λ judge. judge.shape };
+
+    ghost invariant = { λ judge. IsWithinLimits judge.shape };
+}
+
+impl Judge for Silent {
+    ghost meant = { λ shape. shape };
+
+    ghost right = { λ shape sizes es number verdict. ⊥ };
+
+    ghost laws = { λ shape limits. record {
+      launched = λ sizes es number verdict right. absurd right;
+      stays = λ sizes es fs number verdict legal right. absurd right;
+    } };
+
+    fn shape(&self) -> &Shape {
+        &self.shape
+    }
+}
+
+/// A judge of a program with no field and no check.
+fn quiet_judge(alloc: Global) -> Result<Silent, Fail> {
+    let mut classes = Vec::new(alloc);
+    classes.push(Vec::new(alloc))?;
+    let shape = Shape {
+        classes,
+        checks: Vec::new(alloc),
+    };
+    if !shape.fits() {
+        return Err(Fail::from("the shape fits"));
+    }
+    Ok(Silent { shape })
+}
+
+/// Whether the gate refuses a closer. Where it does not, it is opened again.
+fn refuses<J: Judge, R: Wait>(rt: &R, shared: &Shared<J>, seat: &mut MutSeat<J>) -> bool
+    requires table { IsSeatOf J.meant shared.now seat.old }
+    requires phase { IsOutside seat.old }
+    ensures later { IsLater seat.old seat.new }
+    ensures phase { IsOutside seat.new }
+{
+    if !shared.take_gate(seat) {
+        return true;
+    }
+    see_others(rt, shared, seat);
+    shared.give_gate(seat);
+    false
+}
+
+/// Goes in and out so many times. While it is inside it is counted.
+fn visit<J: Judge, R: Wait>(
+    rt: &R,
+    shared: &Shared<J>,
+    inside: &AtomicU64,
+    mut seat: MutSeat<J>,
+    times: u32,
+) -> MutSeat<J>
+    requires table { IsSeatOf J.meant shared.now seat }
+    requires phase { IsOutside seat }
+    ensures later { IsLater seat result }
+    ensures phase { IsOutside result }
+{
+    for _ in 0..times {
+        let visitor = enter(rt, shared, seat);
+        inside.fetch_add(1, Ordering::SeqCst);
+        inside.fetch_sub(1, Ordering::SeqCst);
+        seat = leave(shared, visitor);
+    }
+    seat
+}
+
+/// Closes the gate and opens it so many times. Gives how many visitors it met inside while it was alone, in all.
+fn visit_alone<J: Judge, R: Wait>(
+    rt: &R,
+    shared: &Shared<J>,
+    inside: &AtomicU64,
+    mut seat: MutSeat<J>,
+    times: u32,
+) -> (MutSeat<J>, u64)
+    requires table { IsSeatOf J.meant shared.now seat }
+    requires phase { IsOutside seat }
+    ensures later { IsLater seat result.0 }
+    ensures phase { IsOutside result.0 }
+{
+    let mut met = 0u64;
+    for _ in 0..times {
+        let alone = close_gate(rt, shared, seat);
+        met = met.saturating_add(inside.load(Ordering::SeqCst));
+        seat = open_gate(shared, alone);
+    }
+    (seat, met)
+}
+
+/// Two threads enter and leave 1,000 times each while a third closes and opens 100 times. Gives how many the third met inside.
+fn crowd<J: Judge + Sync + Send, R: Threads + Wait + Sync>(
+    rt: &R,
+    alloc: Global,
+    shared: Shared<J>,
+    mut main: MutSeat<J>,
+) -> Result<u64, Fail>
+    requires table { IsSeatOf J.meant shared main }
+    requires first { main.view ≡ first_view (terms_of J.meant shared) }
+    requires mutators { (sizes_of shared).mutators ≡ 2 }
+{
+    let one = shared.split_mut(alloc, &mut main, 0)?;
+    let two = shared.split_mut(alloc, &mut main, 1)?;
+    let inside = AtomicU64::new(0);
+    let table = &shared;
+    let counter = &inside;
+    let (one, (two, (mut main, met))) = join(
+        rt,
+        move || -> MutSeat<J>
+            requires { IsSeatOf J.meant table.now one × IsOutside one }
+            ensures { IsLater one result × IsOutside result }
+        { visit(rt, table, counter, one, 1000) },
+        move || -> (MutSeat<J>, (MutSeat<J>, u64))
+            requires { IsSeatOf J.meant table.now two × IsOutside two × IsSeatOf J.meant table.now main × IsOutside main × IsSync R.row }
+            ensures { IsLater two result.0 × IsOutside result.0 × IsLater main result.1.0 × IsOutside result.1.0 }
+        {
+            join(
+                rt,
+                move || -> MutSeat<J>
+                    requires { IsSeatOf J.meant table.now two × IsOutside two }
+                    ensures { IsLater two result × IsOutside result }
+                { visit(rt, table, counter, two, 1000) },
+                move || -> (MutSeat<J>, u64)
+                    requires { IsSeatOf J.meant table.now main × IsOutside main }
+                    ensures { IsLater main result.0 × IsOutside result.0 }
+                { visit_alone(rt, table, counter, main, 100) },
+            )
+        },
+    );
+    shared.join_mut(&mut main, one);
+    shared.join_mut(&mut main, two);
+    shared.close(main);
+    Ok(met)
+}
+
+/// The table of two mutators and the main thread.
+fn sizes_of_two() -> Sizes
+    ensures sizes { result.mutators ≡ 2 }
+    ensures fits { AreWithinLimits result }
+{
+    Sizes {
+        mutators: 2,
+        lanes: 2,
+        objects: 4,
+        copies: 3,
+        events: 10,
+        calls: 0,
+    }
+}
+
+#[test]
+fn nobody_is_inside_while_a_third_is_alone(rt: HostRuntime) -> Result<(), Fail> {
+    let judge = quiet_judge(rt.alloc())?;
+    let (shared, main) = Shared::make(rt.alloc(), &judge, &sizes_of_two())?;
+    assert_eq!(rt; crowd(&rt, rt.alloc(), shared, main)?, 0);
+    Ok(())
+}
+
+/// Whether the gate refuses a second closer while it is closed, and after it was opened.
+fn second_closer<J: Judge, R: Wait>(
+    rt: &R,
+    alloc: Global,
+    shared: Shared<J>,
+    mut main: MutSeat<J>,
+) -> Result<(bool, bool), Fail>
+    requires table { IsSeatOf J.meant shared main }
+    requires first { main.view ≡ first_view (terms_of J.meant shared) }
+    requires mutators { (sizes_of shared).mutators ≡ 2 }
+{
+    let mut one = shared.split_mut(alloc, &mut main, 0)?;
+    let alone = close_gate(rt, &shared, main);
+    let closed = refuses(rt, &shared, &mut one);
+    let mut main = open_gate(&shared, alone);
+    let opened = refuses(rt, &shared, &mut one);
+    shared.join_mut(&mut main, one);
+    shared.close(main);
+    Ok((closed, opened))
+}
+
+#[test]
+fn a_closed_gate_refuses_a_second_closer(rt: HostRuntime) -> Result<(), Fail> {
+    let judge = quiet_judge(rt.alloc())?;
+    let (shared, main) = Shared::make(rt.alloc(), &judge, &sizes_of_two())?;
+    let (closed, opened) = second_closer(&rt, rt.alloc(), shared, main)?;
+    assert!(rt; closed && !opened);
+    Ok(())
+}
