@@ -1,13 +1,7 @@
 -- An Alone seat excludes all others.
-use Rattle.std.proofs.Common.{◌≡◌, ◌≢◌, ℕ, ◌+◌, true, sym, ap, ◌∙◌, arith}
-use Rattle.std.proofs.lemmas.Bool.{both_ways}
+use Rattle.std.proofs.Common.{◌≡◌, ◌≢◌, ℕ, ◌+◌, sym, ap, ◌∙◌, arith}
 use Rattle.st_layout.specs.Names.{ClosingWord}
-use Rattle.st_rule.specs.declared.views.Phase.TheVariants.{Inside, Alone}
-use Rattle.st_rule.specs.declared.views.MutView.{MutView}
-use Rattle.st_rule.specs.declared.views.View.{View}
-use Rattle.st_rule.specs.declared.views.View.TheVariants.{Mut}
-use Rattle.st_rule.specs.Parts.{Sits}
-use Rattle.st_rule.specs.Rule.{Told, Moment, HoldsAt}
+use Rattle.st_rule.specs.Rule.{Told}
 use Rattle.st_rule.specs.SeatValue.{SeatValue}
 use Rattle.st_rule.specs.Views.{is_closer}
 use Rattle.st_gate.specs.Exclusion.{ExcludesOthers}

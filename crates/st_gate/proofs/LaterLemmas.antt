@@ -1,5 +1,5 @@
 -- A call of the gate after another.
-use Rattle.std.proofs.Common.{◌≡◌, List, refl, ◌∙◌}
+use Rattle.std.proofs.Common.{refl, ◌∙◌}
 use Rattle.st_rule.specs.SeatValue.{SeatValue}
 use Rattle.st_rule.proofs.PrefixLemmas.{prefix_self, prefix_trans}
 use Rattle.st_gate.specs.Later.{IsLater}

@@ -1,12 +1,11 @@
 -- The numbers that a closer sees in order are the others, each once.
-use Rattle.std.proofs.Common.{◌≡◌, ◌≢◌, ℕ, zero, suc, ◌+◌, ◌<◌, ◌≤◌, ◌⊎◌, ◌==◌, ◌&&◌, ◌||◌, Bool, true, false, if◌then◌else◌, List, [], ◌∷◌}
+use Rattle.std.proofs.Common.{◌≡◌, ◌≢◌, ℕ, zero, suc, ◌+◌, ◌<◌, ◌≤◌, ◌==◌, ◌&&◌, ◌||◌, Bool, true, false, if◌then◌else◌, List, ◌∷◌}
 use Rattle.std.proofs.Common.{sym, ap, refl, subst, ◌∙◌, arith, eq-eqb, ne_eqb, eqb-true, add-one}
 use Rattle.std.proofs.lemmas.Bool.{both_ways}
 use Rattle.std.specs.Cmp.Derive.{both_true}
 use mathlib.Core.Logic.{dite}
 use native.Mathlib.Decide.{ℕ_discrete}
 use Rattle.st_events.specs.World.{is_among}
-use Rattle.st_rule.specs.declared.views.Phase.{Phase}
 use Rattle.st_rule.specs.declared.views.Phase.TheVariants.{Closing, Alone}
 use Rattle.st_rule.specs.Turns.{saw_below, closer_phase}
 use Rattle.st_gate.specs.Others.{others_below}

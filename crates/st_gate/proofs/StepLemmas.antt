@@ -1,9 +1,7 @@
 -- What the steps of a closer leave of its seat.
-use Rattle.std.proofs.Common.{◌≡◌, ◌≢◌, ℕ, ◌+◌, ◌==◌, IsTrue, Bool, true, false, List, [], ◌∷◌, Some, sym, ap, refl, subst, ◌∙◌, eq-eqb, ne_eqb}
-use mathlib.Core.Logic.{◌↔◌}
+use Rattle.std.proofs.Common.{◌≡◌, ◌≢◌, ℕ, ◌==◌, Bool, true, false, List, [], ◌∷◌, Some, sym, ap, refl, subst, ◌∙◌, eq-eqb, ne_eqb}
 use mathlib.Core.List.{IsPrefix}
 use Rattle.st_events.specs.declared.events.Event.{Event}
-use Rattle.st_rule.specs.declared.views.Phase.TheVariants.{Outside, Closing}
 use Rattle.st_rule.specs.declared.views.MutView.{MutView}
 use Rattle.st_rule.specs.Plays.{FindsAndLearns}
 use Rattle.st_rule.specs.SeatValue.{SeatValue}

@@ -2,7 +2,6 @@
 use Rattle.std.specs.Prelude.{◌≡◌}
 use mathlib.Core.List.{IsPrefix}
 use Rattle.st_rule.specs.SeatValue.{SeatValue}
-use Rattle.st_rule.specs.Seats.{HasSeenLegal}
 
 -- It is the same seat of the same table, with its number, its terms and its own events, and it handed out and took in no other.
 -- So what is left of its charge and of its room is as before, too. It has seen no less of the journal, and that is legal

@@ -1,7 +1,6 @@
 -- Words and the board: a load changes nothing, and a store of one word writes one name.
-use Rattle.std.proofs.Common.{◌≡◌, ◌≢◌, ℕ, ◌+◌, ◌*◌, ◌/◌, ◌<◌, ◌≤◌, ◌⊎◌, ◌==◌, ◌&&◌, Bool, true, false, if◌then◌else◌, List, length, set}
+use Rattle.std.proofs.Common.{◌≡◌, ◌≢◌, ℕ, ◌*◌, ◌/◌, ◌<◌, ◌≤◌, ◌==◌, ◌&&◌, Bool, true, false, if◌then◌else◌, List, length, set}
 use Rattle.std.proofs.Common.{get_or, sym, refl, ap, subst, ◌∙◌, arith, mul-le-mul, length-set, get_or-set_other, get_or-set_same, eq-eqb}
-use Rattle.std.proofs.Common.{ne_eqb}
 use Rattle.std.proofs.lemmas.List.{set-get_or}
 use Rattle.std.proofs.lemmas.Bool.Decides.{nat_tests}
 use Rattle.st_events.specs.declared.limits.Sizes.{Sizes}
@@ -10,7 +9,7 @@ use Rattle.st_layout.specs.declared.plans.Plan.{Plan}
 use Rattle.st_layout.specs.Limits.{IsWithinLimits}
 use Rattle.st_layout.specs.Names.{WordName, ClosingWord, ClockWord, EpochWord, AvailableWord, FlagWord, LaneWord, ClassWord, HeaderWord}
 use Rattle.st_layout.specs.Names.{ForwardWord, FieldWord, CopyWord, FreeWord, RowWord, HasWord}
-use Rattle.st_layout.specs.Layout.{word_of, words_of, HasDistinctWords, HasWordsBelow}
+use Rattle.st_layout.specs.Layout.{word_of, words_of}
 use Rattle.st_layout.proofs.Distinct.{words_distinct}
 use Rattle.st_layout.proofs.Bounds.{words_below}
 use Rattle.std.specs.Cmp.Derive.{both_true}

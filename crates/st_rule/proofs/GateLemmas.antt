@@ -1,13 +1,13 @@
 -- What the closing word and the flags say of the phases, after each step of the gate.
-use Rattle.std.proofs.Common.{◌≡◌, ◌≢◌, ℕ, zero, suc, ◌+◌, ◌<◌, ◌≤◌, ◌⊎◌, ◌==◌, ◌&&◌, ◌||◌, Bool, true, false, if◌then◌else◌, List, [], ◌∷◌}
-use Rattle.std.proofs.Common.{sym, refl, ap, subst, ◌∙◌, arith, ⊎_elim, inl, inr, eq-eqb, ne_eqb}
+use Rattle.std.proofs.Common.{◌≡◌, ◌≢◌, ℕ, zero, suc, ◌+◌, ◌<◌, ◌≤◌, ◌==◌, ◌&&◌, ◌||◌, Bool, true, false, if◌then◌else◌, List}
+use Rattle.std.proofs.Common.{sym, refl, ap, subst, ◌∙◌, arith, inl, inr, eq-eqb, ne_eqb}
 use Rattle.std.proofs.lemmas.Bool.{both_ways}
 use mathlib.Core.Logic.{◌↔◌, dite}
 use native.Mathlib.Decide.{ℕ_discrete}
-use Rattle.st_layout.specs.Names.{ClosingWord, ClockWord, FlagWord}
+use Rattle.st_layout.specs.Names.{ClosingWord, FlagWord}
 use Rattle.st_events.specs.World.{at, is_among}
 use Rattle.st_rule.specs.declared.views.Phase.{Phase}
-use Rattle.st_rule.specs.declared.views.Phase.TheVariants.{Outside, Entering, Inside, Closing, Alone}
+use Rattle.st_rule.specs.declared.views.Phase.TheVariants.{Inside, Closing, Alone}
 use Rattle.st_rule.specs.Board.{Board, written}
 use Rattle.st_rule.specs.Views.{flag_of, is_closer}
 use Rattle.st_rule.specs.Turns.{saw_below, closer_phase}

@@ -1,5 +1,5 @@
 -- The six steps of the gate keep the rule, whatever the table is when the word changes.
-use Rattle.std.proofs.Common.{◌≡◌, ◌≢◌, ℕ, suc, ◌+◌, ◌<◌, ◌≤◌, ◌⊎◌, ◌==◌, ◌||◌, eqb, Bool, true, false, if◌then◌else◌, List, [], ◌∷◌, set}
+use Rattle.std.proofs.Common.{◌≡◌, ◌≢◌, ℕ, suc, ◌+◌, ◌≤◌, ◌⊎◌, ◌==◌, ◌||◌, eqb, Bool, true, false, List, [], ◌∷◌, set}
 use Rattle.std.proofs.Common.{get_or, sym, refl, ap, subst, ◌∙◌, arith, ⊎_elim, inl, inr, eq-eqb, ne_eqb, eqb-true}
 use mathlib.Core.Logic.{dite}
 use native.Mathlib.Decide.{ℕ_discrete}
@@ -8,31 +8,29 @@ use mathlib.Core.List.{IsPrefix}
 use prog.Atomic.{either}
 use Rattle.atomic_table.specs.Table.{State, Act, keeps, Valid, carried_after, stepped, Allows}
 use Rattle.atomic_table.proofs.Lists.{exchanged}
-use Rattle.st_layout.specs.Names.{WordName, ClosingWord, ClockWord, FlagWord, HasWord}
+use Rattle.st_layout.specs.Names.{WordName, ClosingWord, FlagWord, HasWord}
 use Rattle.st_layout.specs.Layout.{word_of}
 use Rattle.st_events.specs.declared.events.Event.{Event}
 use Rattle.st_events.specs.World.{at, is_among}
 use Rattle.st_events.specs.Legal.{IsLegal}
-use Rattle.st_rule.specs.declared.views.Phase.{Phase}
 use Rattle.st_rule.specs.declared.views.Phase.TheVariants.{Outside, Entering, Inside, Closing, Alone}
-use Rattle.st_events.proofs.LegalLemmas.{IsLegal-prefix}
+use Rattle.st_events.proofs.LegalLemmas.{prefix_is_legal}
 use Rattle.st_rule.specs.declared.views.Terms.{Terms}
 use Rattle.st_rule.specs.declared.views.MutView.{MutView}
 use Rattle.st_rule.specs.declared.views.View.{View}
 use Rattle.st_rule.specs.declared.views.View.TheVariants.{Mut}
-use Rattle.st_layout.specs.declared.plans.Plan.{Plan}
-use Rattle.st_rule.specs.Board.{Board, Displays, plan_of, written}
+use Rattle.st_rule.specs.Board.{Displays, plan_of, written}
 use Rattle.st_rule.specs.Parts.{Sits}
 use Rattle.st_rule.specs.Plays.{Seated, Becomes, Learns}
 use Rattle.st_rule.specs.Rule.{Told, Moment, HoldsAt, IsSoundTable}
 use Rattle.st_rule.specs.Turns.{flagged_in, looked_at, looked, flagged_out, took, took_gate, saw_flag, saw, gave_gate, closer_phase}
-use Rattle.st_rule.specs.Turns.{saw_below, number_of_flag}
+use Rattle.st_rule.specs.Turns.{saw_below}
 use Rattle.std.proofs.lemmas.Bool.{both_ways}
 use Rattle.st_rule.specs.Views.{flag_of, is_closer}
 use Rattle.st_rule.proofs.BoardLemmas.{plan_fits, load_displays, store_displays}
 use Rattle.st_rule.proofs.ViewLemmas.{mut_is, at_here, at_else, at_same}
 use Rattle.st_rule.proofs.PrefixLemmas.{prefix_self}
-use Rattle.st_rule.proofs.TurnLemmas.{StaysSeated, WordsTell, TurnsTo, phases', turn_keeps, seen_goes_on}
+use Rattle.st_rule.proofs.TurnLemmas.{StaysSeated, WordsTell, TurnsTo, turn_keeps}
 use Rattle.st_rule.proofs.GateLemmas.{flag_written, words_kept, closing_taken, closing_given, closer_is, alone_saw_each}
 
 -- a function of the view that the seat has
@@ -116,7 +114,7 @@ module _ (told : Told) (id : ℕ) (v : MutView) (m : Moment) (s : State Unit Vie
 
   pub seen_legal : IsLegal v.terms.shape v.terms.sizes v.journal.seen
   seen_legal = let p = h.journal_part.prefixes id (Mut v) sits in
-      IsLegal-prefix v.terms.shape v.terms.sizes v.journal.seen p.0 (subst (IsLegal v.terms.shape v.terms.sizes) (sym p.1) journal_legal)
+      prefix_is_legal v.terms.shape v.terms.sizes v.journal.seen p.0 (subst (IsLegal v.terms.shape v.terms.sizes) (sym p.1) journal_legal)
 
   -- a step of the gate to a phase that is no closer's and not Inside
   module _ (w : MutView) (stays : StaysSeated v w) (same_journal : w.journal ≡ v.journal) (out : is_closer w.gate.phase ≡ false) (not_inside : w.gate.phase ≢ Inside) where

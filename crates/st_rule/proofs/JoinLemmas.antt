@@ -1,30 +1,27 @@
 -- A join of a mutator's seat into another keeps the rule.
-use Rattle.std.proofs.Common.{◌≡◌, ◌≢◌, ℕ, zero, suc, ◌+◌, ◌<◌, ◌≤◌, ◌⊎◌, true, false, List, [], ◌∷◌, ◌++◌}
-use Rattle.std.proofs.Common.{length, get_or, set, sym, refl, ap, subst, ◌∙◌, arith, ⊎_elim, inl, inr}
+use Rattle.std.proofs.Common.{◌≡◌, ◌≢◌, ℕ, zero, suc, ◌<◌, ◌≤◌, ◌⊎◌, true, List, ◌∷◌}
+use Rattle.std.proofs.Common.{set, sym, ap, subst, ◌∙◌, arith, ⊎_elim, inl, inr}
 use Rattle.std.specs.Prelude.{All}
 use mathlib.Core.Logic.{dite}
 use mathlib.Core.List.{IsPrefix}
-use mathlib.Core.Option.{some}
 use native.Mathlib.Decide.{ℕ_discrete}
-use lib.ListN.{get_elem?}
-use Rattle.atomic_table.specs.Table.{State, Joins}
+use Rattle.atomic_table.specs.Table.{Joins}
 use Rattle.atomic_table.proofs.Lists.{at_set, set_else}
 use Rattle.st_layout.specs.Names.{ClosingWord, ClockWord, FlagWord}
 use Rattle.st_events.specs.declared.events.Event.{Event}
 use Rattle.st_events.specs.World.{is_among}
 use Rattle.st_rule.specs.declared.views.JoinedView.{JoinedView}
-use Rattle.st_rule.specs.declared.views.Phase.{Phase}
 use Rattle.st_rule.specs.declared.views.Phase.TheVariants.{Outside, Inside, Alone}
 use Rattle.st_rule.specs.declared.views.MutView.{MutView}
 use Rattle.st_rule.specs.declared.views.View.{View}
-use Rattle.st_rule.specs.declared.views.View.TheVariants.{Mut, Lane, Gone}
+use Rattle.st_rule.specs.declared.views.View.TheVariants.{Mut, Gone}
 use Rattle.st_rule.specs.Parts.{Sits, JournalPart, GatePart, HandPart, Seating}
 use Rattle.st_rule.specs.Rule.{Told, Moment, HoldsAt, IsSoundTable}
-use Rattle.st_rule.specs.Turns.{joined_with, longer}
+use Rattle.st_rule.specs.Turns.{joined_with}
 use Rattle.st_rule.specs.Views.{seen_by, is_closer}
 use Rattle.st_rule.proofs.PrefixLemmas.{prefix_empty, IsLonger, longer_is, longer_whole}
 use Rattle.st_rule.proofs.TurnLemmas.{all_further}
-use Rattle.st_rule.proofs.ViewLemmas.{set_there, sits_once, mut_is, all_set, all_mut_set}
+use Rattle.st_rule.proofs.ViewLemmas.{set_there, sits_once, mut_is, all_set}
 
 gone_is_no_mutator : (u : MutView) → Gone ≡ Mut u → ⊥
 gone_is_no_mutator u e = absurd cc

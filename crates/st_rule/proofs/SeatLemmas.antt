@@ -1,10 +1,9 @@
 -- From what a step tells its seat to what contracts say of it.
-use Rattle.std.proofs.Common.{◌≡◌, ℕ, ◌+◌, ◌-◌, ◌==◌, ◌≤◌, IsTrue, Bool, true, false, List, [], Option, Some, sym, refl, ap, subst, ◌∙◌}
-use Rattle.std.proofs.Common.{arith, eq-eqb, eqb-true}
+use Rattle.std.proofs.Common.{◌≡◌, ℕ, ◌+◌, ◌==◌, ◌≤◌, IsTrue, Bool, true, false, List, Option, Some, sym, refl, ap, subst, ◌∙◌}
+use Rattle.std.proofs.Common.{arith}
 use Rattle.std.proofs.lemmas.Bool.Decides.{nat_tests}
 use mathlib.Core.Logic.{◌↔◌}
 use mathlib.Core.List.{IsPrefix}
-use Rattle.st_layout.specs.declared.words.TheConstants.{FIRST_FLAG}
 use Rattle.st_layout.specs.declared.plans.Plan.{Plan}
 use Rattle.st_layout.specs.Names.{FlagWord}
 use Rattle.st_layout.specs.Layout.{word_of}
@@ -15,11 +14,10 @@ use Rattle.st_events.specs.History.{is_new}
 use Rattle.st_events.specs.Legal.{IsLegal}
 use Rattle.st_rule.specs.declared.views.Entry.{Entry}
 use Rattle.st_rule.specs.declared.views.MutView.{MutView}
-use Rattle.st_rule.specs.declared.views.View.{View}
 use Rattle.st_rule.specs.declared.views.View.TheVariants.{Mut}
 use Rattle.st_rule.specs.Plays.{Seated, Becomes, Learns, Finds, FindsAndLearns}
 use Rattle.st_rule.specs.SeatValue.{KeepsSeat, charge_of, charge_spent, objects_made, whole_charge, whole_region}
-use Rattle.st_rule.specs.Turns.{looked, looked_at, took, took_gate, saw_flag, saw, number_of_flag}
+use Rattle.st_rule.specs.Turns.{looked_at, took, took_gate, saw_flag, saw, number_of_flag}
 use Rattle.st_rule.specs.Views.{mutator_of}
 
 -- what a step leaves of what the seat's struct keeps

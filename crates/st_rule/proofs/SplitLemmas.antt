@@ -1,5 +1,5 @@
 -- A split of a mutator's seat keeps the rule.
-use Rattle.std.proofs.Common.{◌≡◌, ◌≢◌, ℕ, zero, suc, ◌+◌, ◌<◌, ◌≤◌, ◌⊎◌, true, false, List, [], ◌∷◌, ◌++◌}
+use Rattle.std.proofs.Common.{◌≡◌, ◌≢◌, ℕ, zero, suc, ◌+◌, ◌<◌, ◌≤◌, ◌⊎◌, true, List, [], ◌∷◌, ◌++◌}
 use Rattle.std.proofs.Common.{length, set, sym, refl, ap, subst, ◌∙◌, arith, ⊎_elim, inl, inr, length-set}
 use Rattle.std.specs.Prelude.{All}
 use mathlib.Core.Logic.{dite}
@@ -7,11 +7,10 @@ use mathlib.Core.List.{IsPrefix}
 use mathlib.Core.Option.{some, some-injective, some-ne-none}
 use native.Mathlib.Decide.{ℕ_discrete}
 use lib.ListN.{get_elem?}
-use Rattle.atomic_table.specs.Table.{State, Splits}
+use Rattle.atomic_table.specs.Table.{Splits}
 use Rattle.atomic_table.proofs.Lists.{set_else, at_longer}
 use Rattle.st_layout.specs.Names.{ClosingWord, ClockWord, FlagWord}
 use Rattle.st_events.specs.World.{at, is_among}
-use Rattle.st_rule.specs.declared.views.Phase.{Phase}
 use Rattle.st_rule.specs.declared.views.Phase.TheVariants.{Outside, Inside, Alone}
 use Rattle.st_rule.specs.declared.views.Terms.{Terms}
 use Rattle.st_rule.specs.declared.views.MutView.{MutView}

@@ -1,26 +1,24 @@
 -- The table at the start meets the rule.
-use Rattle.std.proofs.Common.{◌≡◌, ◌≢◌, ℕ, zero, suc, ◌+◌, ◌<◌, ◌≤◌, ◌⊎◌, true, false, nat_lt, if◌then◌else◌, List, [], ◌∷◌, length, sym}
-use Rattle.std.proofs.Common.{refl, ap, subst, ◌∙◌, arith, inl, inr}
+use Rattle.std.proofs.Common.{◌≡◌, ◌≢◌, ℕ, zero, suc, ◌+◌, ◌<◌, ◌≤◌, true, false, nat_lt, if◌then◌else◌, List, [], ◌∷◌, sym}
+use Rattle.std.proofs.Common.{refl, subst, arith, inl}
 use Rattle.std.proofs.lemmas.Bool.Decides.{nat_tests}
 use mathlib.Core.List.{IsPrefix}
-use mathlib.Core.Option.{some, some-injective, some-ne-none}
-use Rattle.atomic_table.specs.Table.{State, opening}
-use Rattle.st_layout.specs.Names.{ClosingWord, ClockWord, FlagWord}
+use mathlib.Core.Option.{some-injective, some-ne-none}
+use Rattle.atomic_table.specs.Table.{opening}
 use Rattle.st_events.specs.declared.limits.Sizes.{Sizes}
 use Rattle.st_events.specs.Sizes.{AreWithinLimits}
 use Rattle.st_events.specs.Shape.{ShapeLists}
 use Rattle.st_events.specs.Legal.{IsLegal}
 use Rattle.std.specs.Prelude.{All}
 use Rattle.st_events.specs.World.{is_among}
-use Rattle.st_rule.specs.declared.views.Phase.{Phase}
 use Rattle.st_rule.specs.declared.views.Phase.TheVariants.{Outside, Inside, Alone}
 use Rattle.st_rule.specs.declared.views.Terms.{Terms}
 use Rattle.st_rule.specs.declared.views.MutView.{MutView}
 use Rattle.st_rule.specs.declared.views.View.{View}
 use Rattle.st_rule.specs.declared.views.View.TheVariants.{Mut}
 use Rattle.st_rule.specs.Board.{Displays, first_board, plan_of}
-use Rattle.st_rule.specs.Parts.{Sits, JournalPart, GatePart, HandPart, Seating}
-use Rattle.st_rule.specs.Rule.{Told, Moment, HoldsAt, IsSoundTable, first_view}
+use Rattle.st_rule.specs.Parts.{Sits}
+use Rattle.st_rule.specs.Rule.{Told, Moment, IsSoundTable, first_view}
 use Rattle.st_rule.specs.SeatValue.{KeepsSeat}
 use Rattle.st_rule.specs.Views.{seen_by, is_closer}
 use Rattle.st_rule.proofs.ViewLemmas.{mut_is}

@@ -1,6 +1,6 @@
 -- A turn of the gate: one seat's phase changes, and with it at most the closing word or the seat's flag. This one lemma serves
 -- all six steps of the gate.
-use Rattle.std.proofs.Common.{◌≡◌, ◌≢◌, ℕ, ◌+◌, ◌<◌, ◌≤◌, ◌⊎◌, Bool, true, false, List, length, get_or, set, sym, refl, ap, subst, ◌∙◌}
+use Rattle.std.proofs.Common.{◌≡◌, ◌≢◌, ℕ, ◌+◌, ◌<◌, ◌≤◌, ◌⊎◌, true, List, length, get_or, set, sym, ap, subst, ◌∙◌}
 use Rattle.std.proofs.Common.{arith, ⊎_elim, inl, inr}
 use Rattle.std.specs.Prelude.{All}
 use mathlib.Core.Logic.{◌↔◌, dite}
@@ -10,7 +10,7 @@ use Rattle.st_layout.specs.Names.{ClosingWord, ClockWord, FlagWord}
 use Rattle.st_events.specs.declared.events.Event.{Event}
 use Rattle.st_events.specs.World.{at, is_among}
 use Rattle.st_rule.specs.declared.views.Phase.{Phase}
-use Rattle.st_rule.specs.declared.views.Phase.TheVariants.{Outside, Entering, Inside, Closing, Alone}
+use Rattle.st_rule.specs.declared.views.Phase.TheVariants.{Inside, Alone}
 use Rattle.st_layout.specs.Packed.{high_half, low_half}
 use Rattle.st_rule.specs.declared.views.JoinedView.{JoinedView}
 use Rattle.st_rule.specs.declared.views.MutView.{MutView}

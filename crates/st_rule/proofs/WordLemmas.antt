@@ -1,5 +1,5 @@
 -- The first words, one entry of the free list after another.
-use Rattle.std.proofs.Common.{◌≡◌, ◌≢◌, ℕ, zero, suc, ◌+◌, ◌<◌, ◌≤◌, ◌==◌, nat_lt, Bool, true, false, if◌then◌else◌, List, length, get_or}
+use Rattle.std.proofs.Common.{◌≡◌, ◌≢◌, ℕ, zero, suc, ◌+◌, ◌<◌, ◌==◌, nat_lt, Bool, true, false, if◌then◌else◌, List, get_or}
 use Rattle.std.proofs.Common.{set, sym, refl, ap, subst, ◌∙◌, arith, eq-eqb, ne_eqb}
 use Rattle.std.specs.Prelude.{replicate}
 use Rattle.std.proofs.lemmas.Bool.Decides.{nat_tests}
@@ -8,8 +8,8 @@ use mathlib.Core.Logic.{dite}
 use native.Mathlib.Decide.{ℕ_discrete}
 use Rattle.st_layout.specs.declared.plans.Plan.{Plan}
 use Rattle.st_layout.specs.Limits.{IsWithinLimits}
-use Rattle.st_layout.specs.Names.{WordName, ClosingWord, ClockWord, EpochWord, AvailableWord, FlagWord, LaneWord, ClassWord, HeaderWord}
-use Rattle.st_layout.specs.Names.{ForwardWord, FieldWord, CopyWord, FreeWord, RowWord, HasWord}
+use Rattle.st_layout.specs.Names.{WordName, ClosingWord, ClockWord, EpochWord, AvailableWord}
+use Rattle.st_layout.specs.Names.{FreeWord, HasWord}
 use Rattle.st_layout.specs.Layout.{word_of, words_of}
 use Rattle.st_rule.specs.Board.{Board, Displays, written, first_board}
 use Rattle.st_rule.proofs.BoardLemmas.{store_displays}

@@ -1,5 +1,5 @@
 -- What the words of the table say, each by its name. Nothing above this file sees a word's number but through its name.
-use Rattle.std.specs.Prelude.{◌≡◌, ℕ, ◌+◌, ◌*◌, ◌/◌, ◌==◌, ◌&&◌, Bool, true, false, if◌then◌else◌, List, length, slice_index}
+use Rattle.std.specs.Prelude.{◌≡◌, ℕ, ◌*◌, ◌/◌, ◌==◌, ◌&&◌, Bool, true, false, if◌then◌else◌, List, length, slice_index}
 use Rattle.st_events.specs.declared.limits.Sizes.{Sizes}
 use Rattle.st_layout.specs.declared.plans.Plan.{Plan}
 use Rattle.st_layout.specs.Names.{WordName, ClosingWord, ClockWord, EpochWord, AvailableWord, FlagWord, LaneWord, ClassWord, HeaderWord}

@@ -1,9 +1,8 @@
 -- The rule of the shared table: what holds between any two steps, whatever the threads do.
-use Rattle.std.specs.Prelude.{◌≡◌, ℕ, List, [], Some, None}
+use Rattle.std.specs.Prelude.{ℕ, List, [], None}
 use Rattle.atomic_table.specs.Table.{State}
 use Rattle.st_layout.specs.Names.{ClosingWord, ClockWord, FlagWord}
 use Rattle.st_events.specs.declared.events.Event.{Event}
-use Rattle.st_events.specs.declared.limits.Sizes.{Sizes}
 use Rattle.st_events.specs.declared.verdicts.Verdict.{Verdict}
 use Rattle.st_events.specs.Sizes.{AreWithinLimits}
 use Rattle.st_rule.specs.declared.views.Phase.{Phase}
@@ -11,7 +10,6 @@ use Rattle.st_rule.specs.declared.views.Phase.TheVariants.{Outside}
 use Rattle.st_rule.specs.declared.views.Terms.{Terms}
 use Rattle.st_rule.specs.declared.views.MutView.{MutView}
 use Rattle.st_rule.specs.declared.views.View.{View}
-use Rattle.st_rule.specs.declared.views.View.TheVariants.{Mut}
 use Rattle.st_rule.specs.Board.{Board, Displays, plan_of}
 use Rattle.st_rule.specs.Parts.{JournalPart, GatePart, HandPart, Seating}
 

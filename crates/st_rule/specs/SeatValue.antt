@@ -1,5 +1,5 @@
 -- What contracts see of a seat, and what its struct keeps.
-use Rattle.std.specs.Prelude.{◌≡◌, ℕ, ◌+◌, ◌<◌, ◌≤◌, nat_lt, if◌then◌else◌, List, [], ◌∷◌, length}
+use Rattle.std.specs.Prelude.{◌≡◌, ℕ, ◌+◌, ◌≤◌, nat_lt, if◌then◌else◌, List, []}
 use Rattle.std.specs.List.{sum_by, count_by}
 use Rattle.atomic_table.specs.Seated.{TableId}
 use Rattle.st_events.specs.declared.events.Event.{Event}
@@ -8,7 +8,6 @@ use Rattle.st_events.specs.declared.limits.Sizes.{Sizes}
 use Rattle.st_events.specs.Legal.{IsLegal}
 use Rattle.st_events.specs.History.{is_new}
 use Rattle.st_rule.specs.declared.views.Entry.{Entry}
-use Rattle.st_rule.specs.declared.views.Terms.{Terms}
 use Rattle.st_rule.specs.declared.views.MutView.{MutView}
 use Rattle.st_rule.specs.declared.views.View.TheVariants.{Mut}
 use Rattle.st_rule.specs.Plays.{Seated}

@@ -1,5 +1,5 @@
 -- What each step makes of the view of its seat.
-use Rattle.std.specs.Prelude.{◌≡◌, ℕ, zero, suc, ◌+◌, ◌-◌, ◌==◌, ◌&&◌, ◌||◌, Bool, true, false, if◌then◌else◌, List, [], ◌∷◌, length}
+use Rattle.std.specs.Prelude.{ℕ, zero, suc, ◌+◌, ◌-◌, ◌==◌, ◌&&◌, ◌||◌, Bool, true, if◌then◌else◌, List, [], ◌∷◌, length}
 use Rattle.std.specs.Prelude.{nat_lt, Some, None}
 use Rattle.st_layout.specs.declared.words.TheConstants.{FIRST_FLAG}
 use Rattle.st_events.specs.declared.events.Event.{Event}

@@ -1,7 +1,6 @@
 -- Plain functions of views.
-use Rattle.std.specs.Prelude.{◌≡◌, ℕ, Bool, true, false, List, [], None}
+use Rattle.std.specs.Prelude.{ℕ, Bool, true, false, List, [], None}
 use Rattle.st_events.specs.declared.events.Event.{Event}
-use Rattle.st_events.specs.Shape.{ShapeLists}
 use Rattle.st_rule.specs.declared.views.Phase.{Phase}
 use Rattle.st_rule.specs.declared.views.Phase.TheVariants.{Outside, Entering, Inside, Closing, Alone}
 use Rattle.st_rule.specs.declared.views.View.{View}

@@ -1,5 +1,4 @@
-use Rattle.std.proofs.Common.{◌≡◌, ◌≢◌, ℕ, ◌+◌, ◌∷◌, ◌∙◌, sym, ap, subst}
-use mathlib.Core.Logic.{dite}
+use Rattle.std.proofs.Common.{◌+◌, ◌∷◌, ◌∙◌, sym, ap, subst}
 use Rattle.st_gate.specs.Others.{HasSeen, others_below}
 use Rattle.st_gate.proofs.OtherLemmas.{closing_before, others_more, others_same}
 use Rattle.st_gate.proofs.closing.see_number.Goals as goal

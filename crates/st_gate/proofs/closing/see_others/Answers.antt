@@ -1,4 +1,4 @@
-use Rattle.std.proofs.Common.{◌≡◌, ℕ, ◌+◌, ◌∙◌, sym, ap, subst, arith}
+use Rattle.std.proofs.Common.{◌≡◌, ◌+◌, ◌∙◌, ap, arith}
 use Rattle.st_rule.specs.Seats.{sizes_of}
 use Rattle.st_rule.specs.Turns.{closer_phase}
 use Rattle.st_gate.specs.Others.{others_below}

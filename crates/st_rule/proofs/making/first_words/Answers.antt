@@ -1,4 +1,4 @@
-use Rattle.std.proofs.Common.{◌≡◌, ℕ, ◌+◌, ◌<◌, ◌∙◌, set, sym, ap, refl, subst}
+use Rattle.std.proofs.Common.{◌+◌, set, sym, subst}
 use Rattle.st_rule.specs.Board.{Displays}
 use Rattle.st_rule.proofs.WordLemmas.{one_written, board_up_to}
 use Rattle.st_rule.proofs.making.first_words.Goals as goal

@@ -1,4 +1,4 @@
-use Rattle.st_layout.specs.Names.{ClosingWord, FlagWord}
+use Rattle.st_layout.specs.Names.{ClosingWord}
 use Rattle.st_rule.proofs.BoardLemmas.{word_within}
 use Rattle.st_rule.proofs.tables.Shared.closing_place.Goals as goal
 

@@ -1,4 +1,4 @@
-use Rattle.std.proofs.Common.{◌≡◌, ◌∙◌, ℕ, ◌+◌, ◌==◌, sym, ap, refl}
+use Rattle.std.proofs.Common.{◌∙◌, ◌+◌, sym, ap}
 use Rattle.st_rule.specs.Keys.{told_by}
 use Rattle.st_rule.specs.Views.{mutator_of}
 use Rattle.st_rule.proofs.GateSteps.{take_gate_keeps}

@@ -1,4 +1,4 @@
-use Rattle.std.proofs.Common.{◌≡◌, ◌∙◌, ℕ, ◌≤◌, sym, ap, subst}
+use Rattle.std.proofs.Common.{◌∙◌, ◌≤◌, sym, ap, subst}
 use Rattle.atomic_table.specs.Table.{Allows}
 use Rattle.st_rule.specs.Keys.{told_by}
 use Rattle.st_rule.specs.Plays.{Learns, FindsAndLearns}

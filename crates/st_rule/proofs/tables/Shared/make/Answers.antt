@@ -1,11 +1,9 @@
-use Rattle.std.proofs.Common.{◌≡◌, ℕ, ◌∙◌, List, [], sym, ap, refl, subst}
+use Rattle.std.proofs.Common.{List, sym, subst}
 use Rattle.st_layout.specs.declared.plans.Plan.{Plan}
-use Rattle.st_rule.specs.declared.views.View.TheVariants.{Mut}
 use Rattle.st_rule.specs.declared.views.Entry.{Entry}
-use Rattle.st_rule.specs.Board.{Displays, first_board, plan_of}
+use Rattle.st_rule.specs.Board.{Displays, first_board}
 use Rattle.st_rule.specs.Keys.{told_by, terms_by}
 use Rattle.st_rule.specs.Plays.{Seated}
-use Rattle.st_rule.specs.Rule.{first_view}
 use Rattle.st_rule.specs.SeatValue.{KeepsSeat}
 use Rattle.st_rule.proofs.StartLemmas.{start_sound, first_kept}
 use Rattle.st_rule.proofs.tables.Shared.make.Goals as goal

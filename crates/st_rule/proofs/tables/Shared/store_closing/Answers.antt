@@ -1,4 +1,4 @@
-use Rattle.std.proofs.Common.{◌≡◌, ◌∙◌, ℕ, ◌+◌, ◌==◌, sym, ap, refl}
+use Rattle.std.proofs.Common.{◌∙◌, ap}
 use Rattle.st_rule.specs.Keys.{told_by}
 use Rattle.st_rule.specs.Views.{mutator_of}
 use Rattle.st_rule.proofs.GateSteps.{give_gate_keeps}

@@ -1,4 +1,4 @@
-use Rattle.std.proofs.Common.{◌≡◌, ◌∙◌, sym, ap, ⊎_elim}
+use Rattle.std.proofs.Common.{◌∙◌, sym, ap, ⊎_elim}
 use Rattle.st_layout.specs.Names.{FlagWord}
 use Rattle.st_layout.specs.Layout.{word_of}
 use Rattle.st_rule.specs.Board.{plan_of}
