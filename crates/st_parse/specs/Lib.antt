@@ -1,0 +1,4 @@
+pub mod Grammar
+pub mod Operators
+pub mod Sorts
+pub mod Terminals
