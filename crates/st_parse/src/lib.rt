@@ -2,4 +2,7 @@
 #![tactic(auto)]
 
 mod levels;
+mod limits;
 mod sorts;
+
+pub use limits::{MOST_OPEN_BRACES, MOST_TOKENS_BETWEEN};

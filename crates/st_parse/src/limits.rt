@@ -1,0 +1,6 @@
+//! The limits on the tokens of a source.
+
+/// The most braces `{` that are open at a time.
+pub const MOST_OPEN_BRACES: usize = 16;
+/// The most tokens between two neighbouring ones of `;`, `{` and `}`, or between one of these and the start or the end.
+pub const MOST_TOKENS_BETWEEN: usize = 128;
