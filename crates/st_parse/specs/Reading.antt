@@ -106,9 +106,13 @@ many asks item = turns asks (one_more item) []
 abbrev pub is_sort : Sort → Sort → Bool
 is_sort wanted sort = same_sort sort wanted
 
+-- "," item
+abbrev pub after_comma : {A : Type 0} → Reader A → Reader A
+after_comma item = expect sort.Comma >> item
+
 -- item { "," item }
 unfoldable pub listed : {A : Type 0} → Reader A → Reader (List A)
-listed item = item >>= (λ first. turns (is_sort sort.Comma) (one_more (expect sort.Comma >> item)) (first ∷ []))
+listed item = item >>= (λ first. turns (is_sort sort.Comma) (one_more (after_comma item)) (first ∷ []))
 
 -- [ list ] ")", where the list has no closing parenthesis in it
 unfoldable pub enclosed : {A : Type 0} → Reader (List A) → Reader (List A)
@@ -148,6 +152,17 @@ place_by _ = expect sort.Name >>= place_after
 unfoldable pub place : Reader Expr
 place = peek >>= place_by
 
+abbrev pub literal_by : Sort → Reader Expr
+literal_by sort.Number = (λ t. expr.Number t.value t.site) <$> take_any
+literal_by sort.True = (λ t. expr.Truth true t.site) <$> take_any
+literal_by sort.False = (λ t. expr.Truth false t.site) <$> take_any
+literal_by sort.Null = (λ t. expr.Null t.site) <$> take_any
+literal_by _ = refuse
+
+-- number | "true" | "false" | "null"
+unfoldable pub literal : Reader Expr
+literal = peek >>= literal_by
+
 -- What the rules of expressions make, where `inner` reads the expressions inside.
 module _ (inner : Level → Reader Expr) where
   -- [ args ] ")"
@@ -170,14 +185,10 @@ module _ (inner : Level → Reader Expr) where
     pure (expr.Paren e opening.site)
 
   abbrev pub primary_by : Sort → Reader Expr
-  primary_by sort.Number = (λ t. expr.Number t.value t.site) <$> take_any
-  primary_by sort.True = (λ t. expr.Truth true t.site) <$> take_any
-  primary_by sort.False = (λ t. expr.Truth false t.site) <$> take_any
-  primary_by sort.Null = (λ t. expr.Null t.site) <$> take_any
   primary_by sort.Name = named
   primary_by sort.Shared = shared_field
   primary_by sort.OpenParen = paren
-  primary_by _ = refuse
+  primary_by _ = literal
 
   unfoldable pub primary : Reader Expr
   primary = peek >>= primary_by
@@ -227,6 +238,13 @@ module _ (inner : Level → Reader Expr) where
 
   unfoldable pub or : Reader Expr
   or = linked chain.Either and
+
+  -- the operands of the operators of a level
+  abbrev pub operand_of : Chain → Reader Expr
+  operand_of chain.Either = and
+  operand_of chain.Both = cmp
+  operand_of chain.Sum = term
+  operand_of chain.Product = unary
 
   -- "?" expr ":" expr, after its test
   unfoldable pub branches : Expr → Reader Expr
@@ -356,6 +374,12 @@ condition = do
   expect sort.CloseParen
   pure e
 
+-- a terminal that may begin a statement of a block
+abbrev pub in_block : Sort → Bool
+in_block sort.CloseBrace = false
+in_block sort.Other = false
+in_block _ = true
+
 -- What the rules with blocks make, where `inner_block` reads the blocks inside.
 module _ (inner_block : Reader (List Stmt)) where
   -- [ "else" block ]
@@ -398,7 +422,7 @@ module _ (inner_block : Reader (List Stmt)) where
   unfoldable pub block_of : Reader (List Stmt)
   block_of = do
     expect sort.OpenBrace
-    body ← many (λ s. not (is_sort sort.CloseBrace s)) statement
+    body ← many in_block statement
     expect sort.CloseBrace
     pure body
 
