@@ -1,3 +1,5 @@
 pub mod CursorLemmas
+pub mod NestedLemmas
+pub mod Ranks
 pub mod ReadsLemmas
 pub mod Turns

@@ -163,6 +163,9 @@ literal_by _ = refuse
 unfoldable pub literal : Reader Expr
 literal = peek >>= literal_by
 
+abbrev pub is_operator : Chain → Sort → Bool
+is_operator chain sort = is_some (chained chain sort)
+
 -- What the rules of expressions make, where `inner` reads the expressions inside.
 module _ (inner : Level → Reader Expr) where
   -- [ args ] ")"
@@ -214,7 +217,7 @@ module _ (inner : Level → Reader Expr) where
 
   -- operand { operator operand }, grouped to the left
   unfoldable pub linked : Chain → Reader Expr → Reader Expr
-  linked chain operand = operand >>= turns (λ sort. is_some (chained chain sort)) (link chain operand)
+  linked chain operand = operand >>= turns (is_operator chain) (link chain operand)
 
   unfoldable pub term : Reader Expr
   term = linked chain.Product unary
@@ -344,8 +347,12 @@ call_after name = do
   expect sort.Semicolon
   pure (stmt.Call name.bytes found name.site)
 
+-- "=" value ";" after a name
+abbrev pub assign_after : Terminal → Reader Stmt
+assign_after name = (λ v. stmt.Assign name.bytes v name.site) <$> assigned
+
 abbrev pub after_name : Terminal → Sort → Reader Stmt
-after_name name sort.Assign = (λ v. stmt.Assign name.bytes v name.site) <$> assigned
+after_name name sort.Assign = assign_after name
 after_name name sort.OpenParen = call_after name
 after_name name sort.Dot = place_after name >>= put_after
 after_name name _ = refuse

@@ -9,7 +9,7 @@ use crate::lexemes::Lexeme;
 use crate::sorts::Sort;
 use crate::stops::Stop;
 use st_ast::{Boxed, Expr, TypeName};
-use std::alloc::Global;
+use std::alloc::{AllocError, Global};
 
 /// A type.
 #[tactic(auto, unfolding(crate::specs::Reading::type_name))]
@@ -87,7 +87,7 @@ pub fn shared_field(alloc: Global, cursor: &mut Cursor<'_, '_>) -> Result<Expr, 
 }
 
 /// A local.
-pub fn local(alloc: Global, name: &Lexeme<'_>) -> Result<Expr, Stop>
+pub fn local(alloc: Global, name: &Lexeme<'_>) -> Result<Expr, AllocError>
     ensures { IfOk result (λ e. e ≡ expr.Local name.now.bytes name.now.site) }
 {
     Ok(Expr::Local {

@@ -1,0 +1,10 @@
+use Rattle.std.proofs.Common.{◌≡◌, ◌≤◌, length}
+use Rattle.st_parse.specs.Reading as spec
+use Rattle.st_parse.specs.declared.sorts.Sort.TheVariants as sort
+use Rattle.st_parse.proofs.programs.preds.Given as goal
+
+abbrev pub invariant-loop-alloc : goal.invariant-loop-alloc
+invariant-loop-alloc l = spec.many (spec.is_sort sort.Pred) spec.pred l.fn.cursor ≡ spec.turns (spec.is_sort sort.Pred) (spec.one_more spec.pred) l.found l.cursor
+
+abbrev pub decreases-loop-alloc : goal.decreases-loop-alloc
+decreases-loop-alloc l = length l.cursor

@@ -1,0 +1,29 @@
+use Rattle.std.proofs.Common.{◌≡◌, true, false, [], ◌∷◌, ◌++◌, refl, ap, sym, subst, ◌∙◌, arith}
+use Rattle.st_parse.specs.declared.sorts.Sort.TheVariants as sort
+use Rattle.st_parse.specs.Reading as spec
+use Rattle.st_parse.specs.Reading.{is_sort, one_more, sees}
+use Rattle.st_parse.specs.Sorts.{same_sort}
+use Rattle.st_parse.proofs.ReadsLemmas.{handed_on, loop_stops, more_made, more_stops, many_begins, listed_begins}
+use Rattle.st_parse.proofs.Turns.{no_turn, turn_taken}
+use Rattle.st_parse.proofs.programs.threads.Goals as goal
+
+pub loop-alloc-init : goal.loop-alloc-init
+loop-alloc-init c = many_begins (is_sort sort.Thread) spec.thread c.new-found.result c.args.cursor.now c.new-found.ensures
+
+pub returns-in_err-thread : goal.returns-in_err-thread
+unfolding sees same_sort
+returns-in_err-thread c =
+    handed_on (λ found. found) _ c.from_residual.result _ _ c.from_residual.ensures.1
+    (loop_stops (is_sort sort.Thread) (one_more spec.thread) c.loop-alloc.found c.loop-alloc.cursor _ _ _
+    refl c.loop-alloc.invariant (sym c.sees.ensures ∙ c.loop-alloc-test.true) (more_stops spec.thread c.loop-alloc.found c.loop-alloc.cursor c.thread.new.cursor _ c.in_err-thread.ensures.reads))
+
+pub loop-alloc-preserved : goal.loop-alloc-preserved
+unfolding sees same_sort
+loop-alloc-preserved c =
+    c.loop-alloc.invariant ∙ turn_taken (is_sort sort.Thread) (one_more spec.thread) c.loop-alloc.found c.push.new.self c.loop-alloc.cursor c.thread.new.cursor (sym c.sees.ensures ∙ c.loop-alloc-test.true)
+    (more_made spec.thread c.loop-alloc.found c.push.new.self c.in_ok-thread.field-0 c.loop-alloc.cursor c.thread.new.cursor c.in_ok-thread.ensures.reads c.in_ok-push.ensures.ok)
+    c.in_ok-thread.ensures.shorter
+
+pub returns : goal.returns
+unfolding sees same_sort
+returns c = c.loop-alloc.invariant ∙ no_turn (is_sort sort.Thread) _ c.loop-alloc.found c.loop-alloc.cursor (sym c.sees.ensures ∙ c.loop-alloc-test.false)
