@@ -1,6 +1,9 @@
+pub mod Counts
 pub mod Grammar
+pub mod Mentions
 pub mod Operators
 pub mod Reading
+pub mod Reads
 pub mod Sorts
 pub mod Terminals
-pub mod Reads
+pub mod TokenLimits

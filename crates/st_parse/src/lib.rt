@@ -1,17 +1,23 @@
 //! From the tokens of a source to its tree.
 #![tactic(auto)]
 
+mod counts;
 mod cursors;
 mod declarations;
+mod errors;
 mod expressions;
+mod items;
 mod levels;
 mod lexemes;
 mod limits;
+mod mentions;
 mod places;
 mod programs;
 mod sorts;
 mod statements;
 mod stops;
+mod token_limits;
 mod values;
 
-pub use limits::{MOST_OPEN_BRACES, MOST_TOKENS_BETWEEN};
+pub use errors::{ParseError, What};
+pub use limits::{MOST_OPEN_BRACES, MOST_SOURCE_CLASSES, MOST_TOKENS_BETWEEN};

@@ -1,0 +1,71 @@
+//! The first item of a program that is above its limit.
+ghost use Rattle.std.specs.Prelude.{◌≡◌, ◌<◌, length};
+ghost use Rattle.st_parse.specs.Counts as spec;
+
+use crate::errors::What;
+use crate::limits::MOST_SOURCE_CLASSES;
+use st_events::{MOST_ARGS, MOST_CHECKS, MOST_FIELDS, MOST_MUTATORS, Site};
+use st_program::{MOST_LOCALS, MOST_PARAMS, MOST_PREDS, MOST_PROCS};
+
+/// What is counted.
+#[derive(Clone, Copy, Debug, PartialEq, Eq)]
+pub enum Item {
+    /// The count of these begins anew.
+    Anew(What),
+    /// One of these, at its place.
+    One(What, Site),
+}
+
+/// The most that there may be.
+fn most(what: What) -> usize
+    ensures { result ≡ spec.most what }
+{
+    match what {
+        What::Classes => MOST_SOURCE_CLASSES,
+        What::Fields => MOST_FIELDS,
+        What::Preds => MOST_PREDS,
+        What::Procs => MOST_PROCS,
+        What::Threads => MOST_MUTATORS as usize,
+        What::Params => MOST_PARAMS,
+        What::Locals => MOST_LOCALS,
+        What::CheckArgs => MOST_ARGS,
+        What::Checks => MOST_CHECKS,
+    }
+}
+
+/// The place of a count among the counts.
+fn slot(what: What) -> usize
+    ensures value { result ≡ spec.slot what }
+    ensures bound { result < 9 }
+{
+    match what {
+        What::Classes => 0,
+        What::Fields => 1,
+        What::Preds => 2,
+        What::Procs => 3,
+        What::Threads => 4,
+        What::Params => 5,
+        What::Locals => 6,
+        What::CheckArgs => 7,
+        What::Checks => 8,
+    }
+}
+
+/// The first item above its limit.
+pub fn first_excess(items: &[Item]) -> Option<(What, Site)>
+    ensures { result ≡ spec.first_excess items.now }
+{
+    let mut counts = [0; 9];
+    for item in items {
+        match *item {
+            Item::Anew(what) => counts[slot(what)] = 0,
+            Item::One(what, site) => {
+                if counts[slot(what)] >= most(what) {
+                    return Some((what, site));
+                }
+                counts[slot(what)] += 1;
+            }
+        }
+    }
+    None
+}
