@@ -1,3 +1,4 @@
+pub mod FirstLemmas
 pub mod CursorLemmas
 pub mod NestedLemmas
 pub mod Ranks

@@ -1,5 +1,5 @@
 -- What a program has too many of. A program is seen as a list of items in the order of the text.
-use Rattle.std.specs.Prelude.{◌≡◌, ℕ, ◌+◌, Bool, true, false, ◌&&◌, if◌then◌else◌, nat_lt, List, [], ◌∷◌, ◌++◌, ◌<◌, ◌≤◌, map, fold, replicate, slice_index, slice_set, Option, Some, None}
+use Rattle.std.specs.Prelude.{ℕ, ◌+◌, Bool, if◌then◌else◌, nat_lt, List, [], ◌∷◌, ◌++◌, replicate, slice_index, slice_set, Option, Some, None}
 use Rattle.std.specs.List.{flat_map, list_any}
 use Rattle.std.specs.Str.{bytes_eq}
 use Rattle.st_events.specs.declared.events.Site.{Site}
@@ -20,6 +20,8 @@ use Rattle.st_ast.specs.declared.statements.Stmt.TheOpen.{Stmt-F}
 use Rattle.st_parse.specs.declared.limits.TheConstants.{MOST_SOURCE_CLASSES}
 use Rattle.st_parse.specs.declared.errors.What.{What}
 use Rattle.st_parse.specs.declared.errors.What.TheVariants as what
+use Rattle.st_parse.specs.Firsts as firsts
+use Rattle.st_parse.specs.Firsts.{first_from}
 use Rattle.st_parse.specs.declared.counts.Item.{Item}
 use Rattle.st_parse.specs.declared.counts.Item.TheVariants as item
 
@@ -141,30 +143,17 @@ counted counts (item.One what site) = slice_set counts (slot what) (slice_index 
 abbrev pub at_start : List ℕ
 at_start = replicate 9 0
 
--- how many of these the items have since their count last began anew
-abbrev pub count_of : What → List Item → ℕ
-count_of what items = slice_index (fold counted at_start items) (slot what)
+abbrev pub excess : List ℕ → Item → Option (What × Site)
+excess counts (item.Anew what) = None
+excess counts (item.One what site) = if nat_lt (slice_index counts (slot what)) (most what) then None else Some (what, site)
 
--- no item is above its limit
-abbrev pub IsWithinCounts : List Item → Type 0
-IsWithinCounts items = (before after : List Item) (what : What) (site : Site) → items ≡ before ++ item.One what site ∷ after
-    → count_of what before < most what
+-- nothing is above its limit
+abbrev pub IsWithinCounts : Program → Type 0
+IsWithinCounts p = firsts.AreWithin excess counted at_start (items_of p)
 
--- this is the first item above its limit
-pub record IsFirstExcess (items : List Item) (what : What) (at : Site) : Type 0 where
-  pub before : List Item
-  pub after : List Item
-  pub split : items ≡ before ++ item.One what at ∷ after
-  pub within : IsWithinCounts before
-  pub here : most what ≤ count_of what before
-
--- the first item above its limit, where these counts stand before
-abbrev pub first_excess_from : List ℕ → List Item → Option (What × Site)
-first_excess_from counts [] = None
-first_excess_from counts (item.Anew what ∷ items) = first_excess_from (counted counts (item.Anew what)) items
-first_excess_from counts (item.One what site ∷ items) =
-    if nat_lt (slice_index counts (slot what)) (most what) then first_excess_from (counted counts (item.One what site)) items
-    else Some (what, site)
+-- the first that is above its limit, and where it stands
+abbrev pub IsFirstExcess : Program → What → Site → Type 0
+IsFirstExcess p what at = firsts.IsFirst excess counted at_start (items_of p) (what, at)
 
 unfoldable pub first_excess : List Item → Option (What × Site)
-first_excess items = first_excess_from at_start items
+first_excess items = first_from excess counted at_start items

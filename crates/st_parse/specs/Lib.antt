@@ -1,4 +1,5 @@
 pub mod Counts
+pub mod Firsts
 pub mod Grammar
 pub mod Mentions
 pub mod Operators

@@ -1,5 +1,5 @@
 //! The first item of a program that is above its limit.
-ghost use Rattle.std.specs.Prelude.{◌≡◌, ◌<◌, length};
+ghost use Rattle.std.specs.Prelude.{◌≡◌, ◌<◌, None};
 ghost use Rattle.st_parse.specs.Counts as spec;
 
 use crate::errors::What;
@@ -51,20 +51,37 @@ fn slot(what: What) -> usize
     }
 }
 
+/// What one more item is in excess of, with its place.
+fn excess(counts: &[usize; 9], item: Item) -> Option<(What, Site)>
+    ensures { result ≡ spec.excess counts.now item }
+{
+    match item {
+        Item::Anew(_) => None,
+        Item::One(what, site) => (counts[slot(what)] >= most(what)).then_some((what, site)),
+    }
+}
+
+/// Counts one more item, which is above no limit.
+fn count(counts: &mut [usize; 9], item: Item)
+    requires { spec.excess counts.old item ≡ None }
+    ensures { counts.new ≡ spec.counted counts.old item }
+{
+    match item {
+        Item::Anew(what) => counts[slot(what)] = 0,
+        Item::One(what, _) => counts[slot(what)] += 1,
+    }
+}
+
 /// The first item above its limit.
+#[tactic(auto, unfolding(crate::specs::Counts::first_excess))]
 pub fn first_excess(items: &[Item]) -> Option<(What, Site)>
     ensures { result ≡ spec.first_excess items.now }
 {
     let mut counts = [0; 9];
     for item in items {
-        match *item {
-            Item::Anew(what) => counts[slot(what)] = 0,
-            Item::One(what, site) => {
-                if counts[slot(what)] >= most(what) {
-                    return Some((what, site));
-                }
-                counts[slot(what)] += 1;
-            }
+        match excess(&counts, *item) {
+            Some(over) => return Some(over),
+            None => count(&mut counts, *item),
         }
     }
     None

@@ -26,53 +26,53 @@ pub struct TokenCounts {
 }
 
 impl TokenCounts {
-    /// Why a token of this sort would be above a limit.
-    pub fn over(self, sort: Sort) -> Option<Over>
-        ensures { result ≡ spec.over self sort }
+    /// Why one more token would be above a limit, with its place.
+    fn excess(self, lexeme: &Lexeme<'_>) -> Option<(Over, Site)>
+        ensures { result ≡ spec.excess self lexeme.now }
     {
-        match sort {
-            Sort::OpenBrace if self.braces >= MOST_OPEN_BRACES => Some(Over::Deep),
-            Sort::OpenBrace | Sort::CloseBrace | Sort::Semicolon => None,
-            _ if self.since >= MOST_TOKENS_BETWEEN => Some(Over::Long),
-            _ => None,
+        match lexeme.sort() {
+            Sort::OpenBrace => (self.braces >= MOST_OPEN_BRACES).then_some((
+                Over::Deep,
+                lexeme.site(),
+            )),
+            Sort::CloseBrace | Sort::Semicolon => None,
+            _ => (self.since >= MOST_TOKENS_BETWEEN).then_some((Over::Long, lexeme.site())),
         }
     }
 
-    /// Counts a token that is above no limit.
-    pub fn count(self, sort: Sort) -> TokenCounts
-        requires { spec.over self sort ≡ None }
-        ensures { result ≡ spec.counted self sort }
+    /// Counts one more token, which is above no limit.
+    fn count(&mut self, lexeme: &Lexeme<'_>)
+        requires { spec.excess self.old lexeme.now ≡ None }
+        ensures { self.new ≡ spec.counted self.old lexeme.now }
     {
-        match sort {
-            Sort::OpenBrace => TokenCounts {
-                braces: self.braces + 1,
-                since: 0,
-            },
-            Sort::CloseBrace => TokenCounts {
-                braces: self.braces.saturating_sub(1),
-                since: 0,
-            },
-            Sort::Semicolon => TokenCounts {
-                braces: self.braces,
-                since: 0,
-            },
-            _ => TokenCounts {
-                braces: self.braces,
-                since: self.since + 1,
-            },
+        match lexeme.sort() {
+            Sort::OpenBrace => {
+                self.braces += 1;
+                self.since = 0;
+            }
+            Sort::CloseBrace => {
+                self.braces = self.braces.saturating_sub(1);
+                self.since = 0;
+            }
+            Sort::Semicolon => self.since = 0,
+            _ => self.since += 1,
         }
     }
 }
 
 /// The first token above a limit, and why.
+#[tactic(auto, unfolding(crate::specs::TokenLimits::first_over))]
 pub fn first_over(lexemes: &[Lexeme<'_>]) -> Option<(Over, Site)>
     ensures { result ≡ spec.first_over lexemes.now }
 {
-    let mut counts = TokenCounts { braces: 0, since: 0 };
+    let mut counts = TokenCounts {
+        braces: 0,
+        since: 0,
+    };
     for lexeme in lexemes {
-        match counts.over(lexeme.sort()) {
-            Some(why) => return Some((why, lexeme.site())),
-            None => counts = counts.count(lexeme.sort()),
+        match counts.excess(lexeme) {
+            Some(over) => return Some(over),
+            None => counts.count(lexeme),
         }
     }
     None
