@@ -1,4 +1,5 @@
 pub mod Counts
+pub mod FirstFault
 pub mod Firsts
 pub mod Grammar
 pub mod Mentions

@@ -1,0 +1,88 @@
+-- What the chart chooses at the next token.
+use Rattle.std.proofs.Common.{◌≡◌, ℕ, List, [], ◌∷◌, Option, Some, None, refl, ap, sym, ◌∙◌}
+use Rattle.st_ast.specs.declared.operators.Op.{Op}
+use Rattle.st_parse.specs.declared.levels.Chain.{Chain}
+use Rattle.st_parse.specs.declared.levels.Chain.TheVariants as chain
+use Rattle.st_parse.specs.declared.sorts.Sort.{Sort}
+use Rattle.st_parse.specs.declared.sorts.Sort.TheVariants as sort
+use Rattle.st_parse.specs.Operators.{chained, compared}
+use Rattle.st_parse.specs.Sorts.{same_sort}
+use Rattle.st_parse.specs.Terminals.{Terminal, next_sort}
+use Rattle.st_grammar.specs.Charts.{Symbol, token, part, choice_at, sort_of_next}
+use Rattle.st_parse.proofs.Chart as chart
+use Rattle.st_parse.proofs.Chart.{Part, Symbols, grammar}
+
+-- the choice of a part where the next token has the sort
+abbrev pub chosen : Part → Sort → Option Symbols
+chosen n s = choice_at grammar n s
+
+pub at_next : (ts : List Terminal) → sort_of_next grammar ts ≡ next_sort ts
+at_next [] = refl
+at_next (t ∷ ts) = refl
+
+-- the parts of a chain: the whole, an operand, and what may follow
+abbrev pub whole_of : Chain → Part
+whole_of chain.Either = chart.or
+whole_of chain.Both = chart.and
+whole_of chain.Sum = chart.sum
+whole_of chain.Product = chart.term
+
+abbrev pub operand_of : Chain → Part
+operand_of chain.Either = chart.and
+operand_of chain.Both = chart.cmp
+operand_of chain.Sum = chart.term
+operand_of chain.Product = chart.unary
+
+abbrev pub tail_of : Chain → Part
+tail_of chain.Either = chart.or_tail
+tail_of chain.Both = chart.and_tail
+tail_of chain.Sum = chart.sum_tail
+tail_of chain.Product = chart.term_tail
+
+pub chain_begins : (c : Chain) (s : Sort) → chosen (whole_of c) s ≡ Some (part (operand_of c) ∷ part (tail_of c) ∷ [])
+chain_begins chain.Either s = refl
+chain_begins chain.Both s = refl
+chain_begins chain.Sum s = refl
+chain_begins chain.Product s = refl
+
+pub chain_goes_on : (c : Chain) (s : Sort) (o : Op) → chained c s ≡ Some o → chosen (tail_of c) s ≡ Some (token s ∷ part (operand_of c) ∷ part (tail_of c) ∷ [])
+unfolding same_sort
+chain_goes_on chain.Either sort.Either o e = refl
+chain_goes_on chain.Both sort.Both o e = refl
+chain_goes_on chain.Sum sort.Plus o e = refl
+chain_goes_on chain.Sum sort.Minus o e = refl
+chain_goes_on chain.Product sort.Star o e = refl
+chain_goes_on chain.Product sort.Slash o e = refl
+chain_goes_on chain.Product sort.Percent o e = refl
+chain_goes_on _ _ o e = absurd cc
+
+pub chain_ends : (c : Chain) (s : Sort) → chained c s ≡ None → chosen (tail_of c) s ≡ Some []
+unfolding same_sort
+chain_ends chain.Either sort.Either e = absurd cc
+chain_ends chain.Both sort.Both e = absurd cc
+chain_ends chain.Sum sort.Plus e = absurd cc
+chain_ends chain.Sum sort.Minus e = absurd cc
+chain_ends chain.Product sort.Star e = absurd cc
+chain_ends chain.Product sort.Slash e = absurd cc
+chain_ends chain.Product sort.Percent e = absurd cc
+chain_ends _ _ e = refl
+
+pub comparison_goes_on : (s : Sort) (o : Op) → compared s ≡ Some o → chosen chart.cmp_tail s ≡ Some (token s ∷ part chart.sum ∷ [])
+unfolding same_sort
+comparison_goes_on sort.Equal o e = refl
+comparison_goes_on sort.NotEqual o e = refl
+comparison_goes_on sort.Less o e = refl
+comparison_goes_on sort.LessEq o e = refl
+comparison_goes_on sort.Greater o e = refl
+comparison_goes_on sort.GreaterEq o e = refl
+comparison_goes_on _ o e = absurd cc
+
+pub comparison_ends : (s : Sort) → compared s ≡ None → chosen chart.cmp_tail s ≡ Some []
+unfolding same_sort
+comparison_ends sort.Equal e = absurd cc
+comparison_ends sort.NotEqual e = absurd cc
+comparison_ends sort.Less e = absurd cc
+comparison_ends sort.LessEq e = absurd cc
+comparison_ends sort.Greater e = absurd cc
+comparison_ends sort.GreaterEq e = absurd cc
+comparison_ends _ e = refl
