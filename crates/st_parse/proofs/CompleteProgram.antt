@@ -67,7 +67,7 @@ module _ (tokens braces : ℕ) where
         let begun : item (f.first ∷ (f.others ++ xs)) ≡ Ok (x, xs) = ap (λ (l : List Terminal). item (l ++ xs)) f.split ∙ h in
         ap (λ (l : List Terminal). turns (is_sort s) (one_more item) items (l ++ xs)) (sym f.split)
         ∙ turns_go (is_sort s) (one_more item) items (items ++ x ∷ []) f.first (f.others ++ xs) xs (same_is s f.first f.is_first)
-            (then_ok (item (f.first ∷ (f.others ++ xs))) _ x xs _ begun refl) (omega (arith, length-append f.others xs))
+        (then_ok (item (f.first ∷ (f.others ++ xs))) _ x xs _ begun refl) (omega (arith, length-append f.others xs))
 
     module _ (W : List Terminal → Type 0) (onward : (ts : List Terminal) (x : A) (rest : List Terminal) → P ts x → W (ts ++ rest) → W rest)
         (reads : (ts : List Terminal) (x : A) (rest : List Terminal) → P ts x → W (ts ++ rest) → item (ts ++ rest) ≡ Ok (x, rest)) where
@@ -107,7 +107,7 @@ module _ (tokens braces : ℕ) where
   reads_field rest (g.field {name = name} {colon = colon} {semicolon = semicolon} {ts = ts} {kind = kind} n c t s) w =
       let same : (name ∷ colon ∷ ts ++ semicolon ∷ []) ++ rest ≡ name ∷ colon ∷ (ts ++ semicolon ∷ rest) = simp append_assoc in
       ap r.field same ∙ expect_then sort.Name _ name (colon ∷ (ts ++ semicolon ∷ rest)) _ n
-          (then_ok (r.typed (colon ∷ (ts ++ semicolon ∷ rest))) _ kind (semicolon ∷ rest) _ (reads_typed tokens braces colon (semicolon ∷ rest) c t) (expect_then sort.Semicolon _ semicolon rest _ s refl))
+      (then_ok (r.typed (colon ∷ (ts ++ semicolon ∷ rest))) _ kind (semicolon ∷ rest) _ (reads_typed tokens braces colon (semicolon ∷ rest) c t) (expect_then sort.Semicolon _ semicolon rest _ s refl))
 
   not_name : {t : Terminal} → Is sort.CloseBrace t → same_sort t.sort sort.Name ≡ false
   unfolding same_sort
@@ -118,7 +118,7 @@ module _ (tokens braces : ℕ) where
   unfolding r.fields Always
   reads_fields opening ts closing rest fields o h c = expect_then sort.OpenBrace _ opening (ts ++ closing ∷ rest) _ o
       (then_ok (many (is_sort sort.Name) r.field (ts ++ closing ∷ rest)) _ fields (closing ∷ rest) _
-          (reads_many sort.Name r.field IsField (λ us x p. field_begins p) Always (λ us x left p w. tt) (λ us x left p w. reads_field left p w) h (closing ∷ rest) (not_name c) tt) (expect_then sort.CloseBrace _ closing rest _ c refl))
+      (reads_many sort.Name r.field IsField (λ us x p. field_begins p) Always (λ us x left p w. tt) (λ us x left p w. reads_field left p w) h (closing ∷ rest) (not_name c) tt) (expect_then sort.CloseBrace _ closing rest _ c refl))
 
   pub class_begins : {ts : List Terminal} {c : Class} → IsClass ts c → FirstIs sort.Class ts
   class_begins (g.class w n o h c) = first_of _ w
@@ -131,7 +131,7 @@ module _ (tokens braces : ℕ) where
   reads_class rest (g.class {word = word} {name = name} {opening = opening} {closing = closing} {ts = ts} {fields = fields} w n o h c) within =
       let same : (word ∷ name ∷ opening ∷ ts ++ closing ∷ []) ++ rest ≡ word ∷ name ∷ opening ∷ (ts ++ closing ∷ rest) = simp append_assoc in
       ap r.class same ∙ expect_then sort.Class _ word (name ∷ opening ∷ (ts ++ closing ∷ rest)) _ w (expect_then sort.Name _ name (opening ∷ (ts ++ closing ∷ rest)) _ n
-          (then_ok (r.fields (opening ∷ (ts ++ closing ∷ rest))) _ fields rest _ (reads_fields opening ts closing rest fields o h c) refl))
+      (then_ok (r.fields (opening ∷ (ts ++ closing ∷ rest))) _ fields rest _ (reads_fields opening ts closing rest fields o h c) refl))
 
   pub shared_even : {ts : List Terminal} {fs : List Field} → IsShared ts fs → Even ts
   shared_even g.no_shared = even_end
@@ -176,7 +176,7 @@ module _ (tokens braces : ℕ) where
   one_parameter : (items : List Param) (comma : Terminal) (ts rest : List Terminal) (p : Param) → Is sort.Comma comma → IsParam ts p → More items (comma ∷ (ts ++ rest)) ≡ More (items ++ p ∷ []) rest
   one_parameter items comma ts rest p c h =
       turns_go (is_sort sort.Comma) (one_more (expect sort.Comma >> r.param)) items (items ++ p ∷ []) comma (ts ++ rest) rest (same_is sort.Comma comma c)
-          (comma_turn r.param items comma (ts ++ rest) p rest c (reads_param rest h)) (omega (arith, length-append ts rest))
+      (comma_turn r.param items comma (ts ++ rest) p rest c (reads_param rest h)) (omega (arith, length-append ts rest))
 
   reads_more : {ts : List Terminal} {ps : List Param} → AreListed IsParam ts ps → (items : List Param) (comma closing : Terminal) (rest : List Terminal) → Is sort.Comma comma → Is sort.CloseParen closing
       → More items (comma ∷ (ts ++ closing ∷ rest)) ≡ Ok (items ++ ps, closing ∷ rest)
@@ -208,7 +208,7 @@ module _ (tokens braces : ℕ) where
   reads_params opening ts closing rest ps o g.no_params c = expect_then sort.OpenParen (λ _. enclosed (listed r.param)) opening (closing ∷ rest) _ o (enclosed_none (listed r.param) closing rest c)
   reads_params opening ts closing rest ps o (g.some_params h) c = expect_then sort.OpenParen (λ _. enclosed (listed r.param)) opening (ts ++ closing ∷ rest) _ o
       (enclosed_some (listed r.param) (ts ++ closing ∷ rest) ps closing rest (apart is_name (next_sort (ts ++ closing ∷ rest)) sort.CloseParen (first_test is_name (closing ∷ rest) (listed_begins h) refl) refl)
-          (reads_listed h closing rest c) c)
+      (reads_listed h closing rest c) c)
 
   -- ---- predicates, procedures, threads
 
@@ -218,7 +218,7 @@ module _ (tokens braces : ℕ) where
   pub pred_even : {ts : List Terminal} {p : Pred} → IsPred ts p → Even ts
   pred_even (g.pred w n o h c d t a e s) =
       even_append (even_plain (plain_append (plain_append (plain_more (is_plain refl w) (plain_more (is_plain refl n) (plain_more (is_plain refl o) (params_plain h))))
-          (plain_more (is_plain refl c) (plain_more (is_plain refl d) (type_plain t)))) (plain_more (is_plain refl a) (expr_words e).plain))) (even_semicolon s even_end)
+      (plain_more (is_plain refl c) (plain_more (is_plain refl d) (type_plain t)))) (plain_more (is_plain refl a) (expr_words e).plain))) (even_semicolon s even_end)
 
   reads_pred : {ts : List Terminal} {p : Pred} (rest : List Terminal) → IsPred ts p → Within tokens braces 0 (ts ++ rest) → (free.pred tokens braces) (ts ++ rest) ≡ Ok (p, rest)
   unfolding free.pred
@@ -228,17 +228,17 @@ module _ (tokens braces : ℕ) where
       let same : (word ∷ name ∷ opening ∷ ts ++ closing ∷ colon ∷ us ++ assign ∷ vs ++ semicolon ∷ []) ++ rest ≡ word ∷ name ∷ opening ∷ (ts ++ closing ∷ colon ∷ (us ++ assign ∷ (vs ++ semicolon ∷ rest))) = simp append_assoc in
       let all : Within tokens braces 0 (word ∷ name ∷ opening ∷ (ts ++ closing ∷ colon ∷ (us ++ assign ∷ (vs ++ semicolon ∷ rest)))) = subst (Within tokens braces 0) same within in
       let some : Within tokens braces 0 (closing ∷ colon ∷ (us ++ assign ∷ (vs ++ semicolon ∷ rest))) =
-          within_plain tokens braces {ws = word ∷ name ∷ opening ∷ ts} (closing ∷ colon ∷ (us ++ assign ∷ (vs ++ semicolon ∷ rest))) (plain_more (is_plain refl w) (plain_more (is_plain refl n) (plain_more (is_plain refl o) (params_plain h)))) all in
+      within_plain tokens braces {ws = word ∷ name ∷ opening ∷ ts} (closing ∷ colon ∷ (us ++ assign ∷ (vs ++ semicolon ∷ rest))) (plain_more (is_plain refl w) (plain_more (is_plain refl n) (plain_more (is_plain refl o) (params_plain h)))) all in
       let less : span (vs ++ semicolon ∷ rest) < tokens =
-          past {ts = closing ∷ colon ∷ us} assign (vs ++ semicolon ∷ rest) tokens (plain_more (is_plain refl c) (plain_more (is_plain refl d) (type_plain t))) (is_plain refl a) (within_span some) in
+      past {ts = closing ∷ colon ∷ us} assign (vs ++ semicolon ∷ rest) tokens (plain_more (is_plain refl c) (plain_more (is_plain refl d) (type_plain t))) (is_plain refl a) (within_span some) in
       ap (free.pred tokens braces) same ∙ expect_then sort.Pred _ word (name ∷ opening ∷ (ts ++ closing ∷ colon ∷ (us ++ assign ∷ (vs ++ semicolon ∷ rest)))) _ w
-          (expect_then sort.Name _ name (opening ∷ (ts ++ closing ∷ colon ∷ (us ++ assign ∷ (vs ++ semicolon ∷ rest)))) _ n
-              (then_ok (r.params (opening ∷ (ts ++ closing ∷ colon ∷ (us ++ assign ∷ (vs ++ semicolon ∷ rest))))) _ params (colon ∷ (us ++ assign ∷ (vs ++ semicolon ∷ rest))) _
-                  (reads_params opening ts closing (colon ∷ (us ++ assign ∷ (vs ++ semicolon ∷ rest))) params o h c)
-                  (then_ok (r.typed (colon ∷ (us ++ assign ∷ (vs ++ semicolon ∷ rest)))) _ result (assign ∷ (vs ++ semicolon ∷ rest)) _ (reads_typed tokens braces colon (assign ∷ (vs ++ semicolon ∷ rest)) d t)
-                      (expect_then sort.Assign _ assign (vs ++ semicolon ∷ rest) _ a
-                          (then_ok ((free.whole tokens braces) (vs ++ semicolon ∷ rest)) _ body (semicolon ∷ rest) _ (reads_whole tokens braces e (semicolon ∷ rest) (omega (arith, tier_is s)) (omega arith))
-                              (expect_then sort.Semicolon _ semicolon rest _ s refl))))))
+      (expect_then sort.Name _ name (opening ∷ (ts ++ closing ∷ colon ∷ (us ++ assign ∷ (vs ++ semicolon ∷ rest)))) _ n
+      (then_ok (r.params (opening ∷ (ts ++ closing ∷ colon ∷ (us ++ assign ∷ (vs ++ semicolon ∷ rest))))) _ params (colon ∷ (us ++ assign ∷ (vs ++ semicolon ∷ rest))) _
+      (reads_params opening ts closing (colon ∷ (us ++ assign ∷ (vs ++ semicolon ∷ rest))) params o h c)
+      (then_ok (r.typed (colon ∷ (us ++ assign ∷ (vs ++ semicolon ∷ rest)))) _ result (assign ∷ (vs ++ semicolon ∷ rest)) _ (reads_typed tokens braces colon (assign ∷ (vs ++ semicolon ∷ rest)) d t)
+      (expect_then sort.Assign _ assign (vs ++ semicolon ∷ rest) _ a
+      (then_ok ((free.whole tokens braces) (vs ++ semicolon ∷ rest)) _ body (semicolon ∷ rest) _ (reads_whole tokens braces e (semicolon ∷ rest) (omega (arith, tier_is s)) (omega arith))
+      (expect_then sort.Semicolon _ semicolon rest _ s refl))))))
 
   reads_body : {ts : List Terminal} {b : List Stmt} → IsBlock ts b → (rest : List Terminal) → Within tokens braces 0 (ts ++ rest) → (free.body_block tokens braces) (ts ++ rest) ≡ Ok (b, rest)
   unfolding free.body_block
@@ -257,10 +257,10 @@ module _ (tokens braces : ℕ) where
       let same : (word ∷ name ∷ opening ∷ ts ++ closing ∷ us) ++ rest ≡ word ∷ name ∷ opening ∷ (ts ++ closing ∷ (us ++ rest)) = simp append_assoc in
       let all : Within tokens braces 0 (word ∷ name ∷ opening ∷ (ts ++ closing ∷ (us ++ rest))) = subst (Within tokens braces 0) same within in
       let some : Within tokens braces 0 (closing ∷ (us ++ rest)) =
-          within_plain tokens braces {ws = word ∷ name ∷ opening ∷ ts} (closing ∷ (us ++ rest)) (plain_more (is_plain refl w) (plain_more (is_plain refl n) (plain_more (is_plain refl o) (params_plain h)))) all in
+      within_plain tokens braces {ws = word ∷ name ∷ opening ∷ ts} (closing ∷ (us ++ rest)) (plain_more (is_plain refl w) (plain_more (is_plain refl n) (plain_more (is_plain refl o) (params_plain h)))) all in
       ap (free.proc tokens braces) same ∙ expect_then sort.Proc _ word (name ∷ opening ∷ (ts ++ closing ∷ (us ++ rest))) _ w (expect_then sort.Name _ name (opening ∷ (ts ++ closing ∷ (us ++ rest))) _ n
-          (then_ok (r.params (opening ∷ (ts ++ closing ∷ (us ++ rest)))) _ params (us ++ rest) _ (reads_params opening ts closing (us ++ rest) params o h c)
-              (then_ok ((free.body_block tokens braces) (us ++ rest)) _ body rest _ (reads_body b rest (within_sign tokens braces c refl some)) refl)))
+      (then_ok (r.params (opening ∷ (ts ++ closing ∷ (us ++ rest)))) _ params (us ++ rest) _ (reads_params opening ts closing (us ++ rest) params o h c)
+      (then_ok ((free.body_block tokens braces) (us ++ rest)) _ body rest _ (reads_body b rest (within_sign tokens braces c refl some)) refl)))
 
   pub thread_begins : {ts : List Terminal} {t : Thread} → IsThread ts t → FirstIs sort.Thread ts
   thread_begins (g.thread w n b) = first_of _ w
@@ -272,7 +272,7 @@ module _ (tokens braces : ℕ) where
   unfolding free.thread
   reads_thread rest (g.thread {word = word} {name = name} {ts = ts} {body = body} w n b) within =
       expect_then sort.Thread _ word (name ∷ (ts ++ rest)) _ w (expect_then sort.Name _ name (ts ++ rest) _ n
-          (then_ok ((free.body_block tokens braces) (ts ++ rest)) _ body rest _ (reads_body b rest (within_plain tokens braces {ws = word ∷ name ∷ []} (ts ++ rest) (plain_more (is_plain refl w) (plain_more (is_plain refl n) plain_end)) within)) refl))
+      (then_ok ((free.body_block tokens braces) (ts ++ rest)) _ body rest _ (reads_body b rest (within_plain tokens braces {ws = word ∷ name ∷ []} (ts ++ rest) (plain_more (is_plain refl w) (plain_more (is_plain refl n) plain_end)) within)) refl))
 
   -- ---- programs
 
@@ -334,11 +334,11 @@ module _ (tokens braces : ℕ) where
       let t2 : from_shared (next_sort (us ++ (vs ++ (ws ++ (xs ++ []))))) ≡ true = shared_test (vs ++ (ws ++ (xs ++ []))) b t3 in
       ap (free.program tokens braces) same
       ∙ then_ok (many (is_sort sort.Class) r.class (ts ++ (us ++ (vs ++ (ws ++ (xs ++ [])))))) _ classes (us ++ (vs ++ (ws ++ (xs ++ [])))) _
-          (reads_many sort.Class r.class IsClass (λ ts x p. class_begins p) (Within tokens braces 0) (λ ts x rest p w. within_even rest (class_even p) w) (λ ts x rest p w. reads_class rest p w) a (us ++ (vs ++ (ws ++ (xs ++ [])))) (apart from_shared _ sort.Class t2 refl) one)
-          (then_ok (r.shared_block (us ++ (vs ++ (ws ++ (xs ++ []))))) _ shared (vs ++ (ws ++ (xs ++ []))) _ (reads_shared (vs ++ (ws ++ (xs ++ []))) b (apart from_preds _ sort.Shared t3 refl))
-              (then_ok (many (is_sort sort.Pred) (free.pred tokens braces) (vs ++ (ws ++ (xs ++ [])))) _ preds (ws ++ (xs ++ [])) _
-                  (reads_many sort.Pred (free.pred tokens braces) IsPred (λ ts x p. pred_begins p) (Within tokens braces 0) (λ ts x rest p w. within_even rest (pred_even p) w) (λ ts x rest p w. reads_pred rest p w) c (ws ++ (xs ++ [])) (apart from_procs _ sort.Pred t4 refl) three)
-                  (then_ok (many (is_sort sort.Proc) (free.proc tokens braces) (ws ++ (xs ++ []))) _ procs (xs ++ []) _
-                      (reads_many sort.Proc (free.proc tokens braces) IsProc (λ ts x p. proc_begins p) (Within tokens braces 0) (λ ts x rest p w. within_even rest (proc_even p) w) (λ ts x rest p w. reads_proc rest p w) d (xs ++ []) (apart from_threads _ sort.Proc t5 refl) four)
-                      (then_ok (many (is_sort sort.Thread) (free.thread tokens braces) (xs ++ [])) _ threads [] _
-                          (reads_many sort.Thread (free.thread tokens braces) IsThread (λ ts x p. thread_begins p) (Within tokens braces 0) (λ ts x rest p w. within_even rest (thread_even p) w) (λ ts x rest p w. reads_thread rest p w) e [] other_thread five) refl))))
+      (reads_many sort.Class r.class IsClass (λ ts x p. class_begins p) (Within tokens braces 0) (λ ts x rest p w. within_even rest (class_even p) w) (λ ts x rest p w. reads_class rest p w) a (us ++ (vs ++ (ws ++ (xs ++ [])))) (apart from_shared _ sort.Class t2 refl) one)
+      (then_ok (r.shared_block (us ++ (vs ++ (ws ++ (xs ++ []))))) _ shared (vs ++ (ws ++ (xs ++ []))) _ (reads_shared (vs ++ (ws ++ (xs ++ []))) b (apart from_preds _ sort.Shared t3 refl))
+      (then_ok (many (is_sort sort.Pred) (free.pred tokens braces) (vs ++ (ws ++ (xs ++ [])))) _ preds (ws ++ (xs ++ [])) _
+      (reads_many sort.Pred (free.pred tokens braces) IsPred (λ ts x p. pred_begins p) (Within tokens braces 0) (λ ts x rest p w. within_even rest (pred_even p) w) (λ ts x rest p w. reads_pred rest p w) c (ws ++ (xs ++ [])) (apart from_procs _ sort.Pred t4 refl) three)
+      (then_ok (many (is_sort sort.Proc) (free.proc tokens braces) (ws ++ (xs ++ []))) _ procs (xs ++ []) _
+      (reads_many sort.Proc (free.proc tokens braces) IsProc (λ ts x p. proc_begins p) (Within tokens braces 0) (λ ts x rest p w. within_even rest (proc_even p) w) (λ ts x rest p w. reads_proc rest p w) d (xs ++ []) (apart from_threads _ sort.Proc t5 refl) four)
+      (then_ok (many (is_sort sort.Thread) (free.thread tokens braces) (xs ++ [])) _ threads [] _
+      (reads_many sort.Thread (free.thread tokens braces) IsThread (λ ts x p. thread_begins p) (Within tokens braces 0) (λ ts x rest p w. within_even rest (thread_even p) w) (λ ts x rest p w. reads_thread rest p w) e [] other_thread five) refl))))

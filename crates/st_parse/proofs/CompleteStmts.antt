@@ -142,7 +142,7 @@ module _ (tokens braces : ℕ) where
   unfolding free.value_here
   value_of_expr {ts = ts} rest w =
       let at : (l : List Terminal) → w.first ∷ w.others ≡ l → (free.value_by tokens braces) (next_sort (l ++ rest)) (l ++ rest) ≡ (value.Plain <$> (free.whole tokens braces)) (l ++ rest) =
-          λ l e. subst (λ (l : List Terminal). (free.value_by tokens braces) (next_sort (l ++ rest)) (l ++ rest) ≡ (value.Plain <$> (free.whole tokens braces)) (l ++ rest)) e (not_new w.first.sort (w.first ∷ (w.others ++ rest)) w.starts) in
+      λ l e. subst (λ (l : List Terminal). (free.value_by tokens braces) (next_sort (l ++ rest)) (l ++ rest) ≡ (value.Plain <$> (free.whole tokens braces)) (l ++ rest)) e (not_new w.first.sort (w.first ∷ (w.others ++ rest)) w.starts) in
       at ts w.split
 
   value_at : (s : Sort) (t : Terminal) (rest : List Terminal) (out : Outcome Value) → Is s t → (free.value_by tokens braces) s (t ∷ rest) ≡ out → (free.value_here tokens braces) (t ∷ rest) ≡ out
@@ -161,16 +161,16 @@ module _ (tokens braces : ℕ) where
   reads_cas word opening ts comma us other vs closing rest place expect e w o p c q d h k within =
       let at : List Terminal = ts ++ comma ∷ (us ++ other ∷ (vs ++ closing ∷ rest)) in
       let one : span (ts ++ comma ∷ (us ++ other ∷ (vs ++ closing ∷ rest))) < tokens =
-          past {ts = word ∷ []} opening (ts ++ comma ∷ (us ++ other ∷ (vs ++ closing ∷ rest))) tokens (plain_more (is_plain refl w) plain_end) (is_plain refl o) within in
+      past {ts = word ∷ []} opening (ts ++ comma ∷ (us ++ other ∷ (vs ++ closing ∷ rest))) tokens (plain_more (is_plain refl w) plain_end) (is_plain refl o) within in
       let two : span (us ++ other ∷ (vs ++ closing ∷ rest)) < tokens = past comma (us ++ other ∷ (vs ++ closing ∷ rest)) tokens (place_plain p) (is_plain refl c) (omega arith) in
       let three : span (vs ++ closing ∷ rest) < tokens = past other (vs ++ closing ∷ rest) tokens (expr_words q).plain (is_plain refl d) (omega arith) in
       expect_then sort.Cas _ word (opening ∷ at) _ w (expect_then sort.OpenParen _ opening at _ o
-          (then_ok (r.place at) _ place (comma ∷ (us ++ other ∷ (vs ++ closing ∷ rest))) _ (reads_place p (comma ∷ (us ++ other ∷ (vs ++ closing ∷ rest))) (omega (arith, tier_is c)))
-              (expect_then sort.Comma _ comma (us ++ other ∷ (vs ++ closing ∷ rest)) _ c
-                  (then_ok ((free.whole tokens braces) (us ++ other ∷ (vs ++ closing ∷ rest))) _ expect (other ∷ (vs ++ closing ∷ rest)) _ (reads_whole q (other ∷ (vs ++ closing ∷ rest)) (omega (arith, tier_is d)) (omega arith))
-                      (expect_then sort.Comma _ other (vs ++ closing ∷ rest) _ d
-                          (then_ok ((free.whole tokens braces) (vs ++ closing ∷ rest)) _ e (closing ∷ rest) _ (reads_whole h (closing ∷ rest) (omega (arith, tier_is k)) (omega arith))
-                              (expect_then sort.CloseParen _ closing rest _ k refl)))))))
+      (then_ok (r.place at) _ place (comma ∷ (us ++ other ∷ (vs ++ closing ∷ rest))) _ (reads_place p (comma ∷ (us ++ other ∷ (vs ++ closing ∷ rest))) (omega (arith, tier_is c)))
+      (expect_then sort.Comma _ comma (us ++ other ∷ (vs ++ closing ∷ rest)) _ c
+      (then_ok ((free.whole tokens braces) (us ++ other ∷ (vs ++ closing ∷ rest))) _ expect (other ∷ (vs ++ closing ∷ rest)) _ (reads_whole q (other ∷ (vs ++ closing ∷ rest)) (omega (arith, tier_is d)) (omega arith))
+      (expect_then sort.Comma _ other (vs ++ closing ∷ rest) _ d
+      (then_ok ((free.whole tokens braces) (vs ++ closing ∷ rest)) _ e (closing ∷ rest) _ (reads_whole h (closing ∷ rest) (omega (arith, tier_is k)) (omega arith))
+      (expect_then sort.CloseParen _ closing rest _ k refl)))))))
 
   reads_value : {ts : List Terminal} {v : Value} → IsValue ts v → (rest : List Terminal) → 8 < tier (next_sort rest) → span (ts ++ rest) ≤ tokens → (free.value_here tokens braces) (ts ++ rest) ≡ Ok (v, rest)
   reads_value (g.of_expr {ts = ts} {e = e} h) rest t w = value_of_expr rest (expr_words h) ∙ then_ok ((free.whole tokens braces) (ts ++ rest)) _ e rest _ (reads_whole h rest t w) refl
@@ -179,7 +179,7 @@ module _ (tokens braces : ℕ) where
       let same : (word ∷ opening ∷ ts ++ comma ∷ us ++ other ∷ vs ++ closing ∷ []) ++ rest ≡ word ∷ opening ∷ (ts ++ comma ∷ (us ++ other ∷ (vs ++ closing ∷ rest))) = simp append_assoc in
       ap (free.value_here tokens braces) same
       ∙ value_at sort.Cas word (opening ∷ (ts ++ comma ∷ (us ++ other ∷ (vs ++ closing ∷ rest)))) _ a
-          (reads_cas word opening ts comma us other vs closing rest place wanted e a o p c q d h k (subst (λ (l : List Terminal). span l ≤ tokens) same w))
+      (reads_cas word opening ts comma us other vs closing rest place wanted e a o p c q d h k (subst (λ (l : List Terminal). span l ≤ tokens) same w))
 
   reads_assigned : {ts : List Terminal} {v : Value} (assign semicolon : Terminal) (rest : List Terminal) → Is sort.Assign assign → IsValue ts v → Is sort.Semicolon semicolon
       → span (ts ++ semicolon ∷ rest) ≤ tokens → (free.assigned tokens braces) (assign ∷ (ts ++ semicolon ∷ rest)) ≡ Ok (v, rest)
@@ -199,10 +199,10 @@ module _ (tokens braces : ℕ) where
   unfolding free.var_stmt
   reads_var word name colon ts assign us semicolon rest kind v w n c t a h s within =
       let less : span (us ++ semicolon ∷ rest) < tokens =
-          past {ts = word ∷ name ∷ colon ∷ ts} assign (us ++ semicolon ∷ rest) tokens (plain_more (is_plain refl w) (plain_more (is_plain refl n) (plain_more (is_plain refl c) (type_plain t)))) (is_plain refl a) within in
+      past {ts = word ∷ name ∷ colon ∷ ts} assign (us ++ semicolon ∷ rest) tokens (plain_more (is_plain refl w) (plain_more (is_plain refl n) (plain_more (is_plain refl c) (type_plain t)))) (is_plain refl a) within in
       expect_then sort.Var _ word (name ∷ colon ∷ (ts ++ assign ∷ (us ++ semicolon ∷ rest))) _ w (expect_then sort.Name _ name (colon ∷ (ts ++ assign ∷ (us ++ semicolon ∷ rest))) _ n
-          (then_ok (r.typed (colon ∷ (ts ++ assign ∷ (us ++ semicolon ∷ rest)))) _ kind (assign ∷ (us ++ semicolon ∷ rest)) _ (reads_typed colon (assign ∷ (us ++ semicolon ∷ rest)) c t)
-              (then_ok ((free.assigned tokens braces) (assign ∷ (us ++ semicolon ∷ rest))) _ v rest _ (reads_assigned assign semicolon rest a h s (omega arith)) refl)))
+      (then_ok (r.typed (colon ∷ (ts ++ assign ∷ (us ++ semicolon ∷ rest)))) _ kind (assign ∷ (us ++ semicolon ∷ rest)) _ (reads_typed colon (assign ∷ (us ++ semicolon ∷ rest)) c t)
+      (then_ok ((free.assigned tokens braces) (assign ∷ (us ++ semicolon ∷ rest))) _ v rest _ (reads_assigned assign semicolon rest a h s (omega arith)) refl)))
 
   reads_assign : (name assign : Terminal) (ts : List Terminal) (semicolon : Terminal) (rest : List Terminal) (v : Value) → Is sort.Name name → Is sort.Assign assign → IsValue ts v → Is sort.Semicolon semicolon
       → span (name ∷ assign ∷ (ts ++ semicolon ∷ rest)) ≤ tokens → (free.named_stmt tokens braces) (name ∷ assign ∷ (ts ++ semicolon ∷ rest)) ≡ Ok (stmt.Assign name.bytes v name.site, rest)
@@ -210,7 +210,7 @@ module _ (tokens braces : ℕ) where
   reads_assign name assign ts semicolon rest v n a h s within =
       let less : span (ts ++ semicolon ∷ rest) < tokens = past {ts = name ∷ []} assign (ts ++ semicolon ∷ rest) tokens (plain_more (is_plain refl n) plain_end) (is_plain refl a) within in
       expect_then sort.Name _ name (assign ∷ (ts ++ semicolon ∷ rest)) _ n
-          (at_sort ((free.after_name tokens braces) name) sort.Assign assign (ts ++ semicolon ∷ rest) _ a (then_ok ((free.assigned tokens braces) (assign ∷ (ts ++ semicolon ∷ rest))) _ v rest _ (reads_assigned assign semicolon rest a h s (omega arith)) refl))
+      (at_sort ((free.after_name tokens braces) name) sort.Assign assign (ts ++ semicolon ∷ rest) _ a (then_ok ((free.assigned tokens braces) (assign ∷ (ts ++ semicolon ∷ rest))) _ v rest _ (reads_assigned assign semicolon rest a h s (omega arith)) refl))
 
   reads_put : (place : Expr) (assign : Terminal) (us : List Terminal) (semicolon : Terminal) (rest : List Terminal) (v : Value) → Is sort.Assign assign → IsValue us v → Is sort.Semicolon semicolon
       → span (us ++ semicolon ∷ rest) ≤ tokens → (free.put_after tokens braces) place (assign ∷ (us ++ semicolon ∷ rest)) ≡ Ok (stmt.Put place v (site_of_expr place), rest)
@@ -223,7 +223,7 @@ module _ (tokens braces : ℕ) where
   reads_args closing rest g.no_args c w = enclosed_none (listed (r.nested (suc tokens) level.Whole)) closing rest c
   reads_args {ts = ts} {es = es} closing rest (g.some_args h) c w =
       enclosed_some (listed (r.nested (suc tokens) level.Whole)) (ts ++ closing ∷ rest) es closing rest (opens_no_list (closing ∷ rest) (exprs_words h))
-          (reads_exprs h (suc tokens) closing rest c (omega arith)) c
+      (reads_exprs h (suc tokens) closing rest c (omega arith)) c
 
   reads_call : (name opening : Terminal) (ts : List Terminal) (closing semicolon : Terminal) (rest : List Terminal) (args : List Expr) → Is sort.Name name → Is sort.OpenParen opening → AreArgs ts args → Is sort.CloseParen closing
       → Is sort.Semicolon semicolon → span (name ∷ opening ∷ (ts ++ closing ∷ semicolon ∷ rest)) ≤ tokens
@@ -232,8 +232,8 @@ module _ (tokens braces : ℕ) where
   reads_call name opening ts closing semicolon rest args n o h c s within =
       let less : span (ts ++ closing ∷ semicolon ∷ rest) < tokens = past {ts = name ∷ []} opening (ts ++ closing ∷ semicolon ∷ rest) tokens (plain_more (is_plain refl n) plain_end) (is_plain refl o) within in
       expect_then sort.Name _ name (opening ∷ (ts ++ closing ∷ semicolon ∷ rest)) _ n
-          (at_sort ((free.after_name tokens braces) name) sort.OpenParen opening (ts ++ closing ∷ semicolon ∷ rest) _ o (expect_then sort.OpenParen _ opening (ts ++ closing ∷ semicolon ∷ rest) _ o
-              (then_ok (enclosed (listed (free.whole tokens braces)) (ts ++ closing ∷ semicolon ∷ rest)) _ args (semicolon ∷ rest) _ (reads_args closing (semicolon ∷ rest) h c (omega arith)) (expect_then sort.Semicolon _ semicolon rest _ s refl))))
+      (at_sort ((free.after_name tokens braces) name) sort.OpenParen opening (ts ++ closing ∷ semicolon ∷ rest) _ o (expect_then sort.OpenParen _ opening (ts ++ closing ∷ semicolon ∷ rest) _ o
+      (then_ok (enclosed (listed (free.whole tokens braces)) (ts ++ closing ∷ semicolon ∷ rest)) _ args (semicolon ∷ rest) _ (reads_args closing (semicolon ∷ rest) h c (omega arith)) (expect_then sort.Semicolon _ semicolon rest _ s refl))))
 
   reads_check : (word : Terminal) (ts : List Terminal) (semicolon : Terminal) (rest : List Terminal) (body : Expr) → Is sort.Check word → IsExpr ts body → Is sort.Semicolon semicolon
       → span (word ∷ (ts ++ semicolon ∷ rest)) ≤ tokens → (free.check_stmt tokens braces) (word ∷ (ts ++ semicolon ∷ rest)) ≡ Ok (stmt.Check body word.site, rest)
@@ -241,7 +241,7 @@ module _ (tokens braces : ℕ) where
   reads_check word ts semicolon rest body w h s within =
       let less : span (ts ++ semicolon ∷ rest) < tokens = past {ts = []} word (ts ++ semicolon ∷ rest) tokens plain_end (is_plain refl w) within in
       expect_then sort.Check _ word (ts ++ semicolon ∷ rest) _ w
-          (then_ok ((free.whole tokens braces) (ts ++ semicolon ∷ rest)) _ body (semicolon ∷ rest) _ (reads_whole h (semicolon ∷ rest) (omega (arith, tier_is s)) (omega arith)) (expect_then sort.Semicolon _ semicolon rest _ s refl))
+      (then_ok ((free.whole tokens braces) (ts ++ semicolon ∷ rest)) _ body (semicolon ∷ rest) _ (reads_whole h (semicolon ∷ rest) (omega (arith, tier_is s)) (omega arith)) (expect_then sort.Semicolon _ semicolon rest _ s refl))
 
   reads_condition : (opening : Terminal) (ts : List Terminal) (closing : Terminal) (rest : List Terminal) (e : Expr) → Is sort.OpenParen opening → IsExpr ts e → Is sort.CloseParen closing
       → span (ts ++ closing ∷ rest) ≤ tokens → (free.condition tokens braces) (opening ∷ (ts ++ closing ∷ rest)) ≡ Ok (e, rest)
@@ -272,11 +272,11 @@ module _ (tokens braces : ℕ) where
         let xs : List Terminal = assign ∷ (us ++ semicolon ∷ rest) in
         ap (λ (l : List Terminal). (free.statement tokens braces) ib (l ++ assign ∷ (us ++ semicolon ∷ rest))) (sym f.split)
         ∙ statement_at sort.Name f.object (f.dot ∷ (f.others ++ assign ∷ (us ++ semicolon ∷ rest))) _ f.is_object
-            (expect_then sort.Name _ f.object (f.dot ∷ (f.others ++ assign ∷ (us ++ semicolon ∷ rest))) _ f.is_object
-                (at_sort ((free.after_name tokens braces) f.object) sort.Dot f.dot (f.others ++ assign ∷ (us ++ semicolon ∷ rest)) _ f.is_dot
-                    (then_ok (r.place_after f.object (f.dot ∷ (f.others ++ assign ∷ (us ++ semicolon ∷ rest)))) (free.put_after tokens braces) place (assign ∷ (us ++ semicolon ∷ rest)) _
-                        (f.reads (assign ∷ (us ++ semicolon ∷ rest)) ∙ fields_end place (assign ∷ (us ++ semicolon ∷ rest)) (omega (arith, tier_is a)))
-                        (reads_put place assign us semicolon rest v a h s w))))
+        (expect_then sort.Name _ f.object (f.dot ∷ (f.others ++ assign ∷ (us ++ semicolon ∷ rest))) _ f.is_object
+        (at_sort ((free.after_name tokens braces) f.object) sort.Dot f.dot (f.others ++ assign ∷ (us ++ semicolon ∷ rest)) _ f.is_dot
+        (then_ok (r.place_after f.object (f.dot ∷ (f.others ++ assign ∷ (us ++ semicolon ∷ rest)))) (free.put_after tokens braces) place (assign ∷ (us ++ semicolon ∷ rest)) _
+        (f.reads (assign ∷ (us ++ semicolon ∷ rest)) ∙ fields_end place (assign ∷ (us ++ semicolon ∷ rest)) (omega (arith, tier_is a)))
+        (reads_put place assign us semicolon rest v a h s w))))
 
     put_by_shared : {ts : List Terminal} {place : Expr} (assign : Terminal) (us : List Terminal) (semicolon : Terminal) (rest : List Terminal) (v : Value) → ByShared ts place → Is sort.Assign assign → IsValue us v
         → Is sort.Semicolon semicolon → span (us ++ semicolon ∷ rest) ≤ tokens → (free.statement tokens braces) ib (ts ++ assign ∷ (us ++ semicolon ∷ rest)) ≡ Ok (stmt.Put place v (site_of_expr place), rest)
@@ -284,9 +284,9 @@ module _ (tokens braces : ℕ) where
     put_by_shared {ts = ts} {place = place} assign us semicolon rest v f a h s w =
         ap (λ (l : List Terminal). (free.statement tokens braces) ib (l ++ assign ∷ (us ++ semicolon ∷ rest))) (sym f.split)
         ∙ statement_at sort.Shared f.shared (f.others ++ assign ∷ (us ++ semicolon ∷ rest)) _ f.is_shared
-            (then_ok (r.place (f.shared ∷ (f.others ++ assign ∷ (us ++ semicolon ∷ rest)))) (free.put_after tokens braces) place (assign ∷ (us ++ semicolon ∷ rest)) _
-                (ap (λ (l : List Terminal). r.place (l ++ assign ∷ (us ++ semicolon ∷ rest))) f.split ∙ f.reads (assign ∷ (us ++ semicolon ∷ rest)) ∙ fields_end place (assign ∷ (us ++ semicolon ∷ rest)) (omega (arith, tier_is a)))
-                (reads_put place assign us semicolon rest v a h s w))
+        (then_ok (r.place (f.shared ∷ (f.others ++ assign ∷ (us ++ semicolon ∷ rest)))) (free.put_after tokens braces) place (assign ∷ (us ++ semicolon ∷ rest)) _
+        (ap (λ (l : List Terminal). r.place (l ++ assign ∷ (us ++ semicolon ∷ rest))) f.split ∙ f.reads (assign ∷ (us ++ semicolon ∷ rest)) ∙ fields_end place (assign ∷ (us ++ semicolon ∷ rest)) (omega (arith, tier_is a)))
+        (reads_put place assign us semicolon rest v a h s w))
 
     put_of : {ts : List Terminal} {place : Expr} (assign : Terminal) (us : List Terminal) (semicolon : Terminal) (rest : List Terminal) (v : Value) → Form ts place → Is sort.Assign assign → IsValue us v
         → Is sort.Semicolon semicolon → span (us ++ semicolon ∷ rest) ≤ tokens → (free.statement tokens braces) ib (ts ++ assign ∷ (us ++ semicolon ∷ rest)) ≡ Ok (stmt.Put place v (site_of_expr place), rest)
@@ -299,8 +299,8 @@ module _ (tokens braces : ℕ) where
     unfolding free.if_stmt
     if_ok word opening ts closing xs cond body ys other rest w o h c within b e =
         statement_at sort.If word (opening ∷ (ts ++ closing ∷ xs)) _ w (expect_then sort.If _ word (opening ∷ (ts ++ closing ∷ xs)) _ w
-            (then_ok ((free.condition tokens braces) (opening ∷ (ts ++ closing ∷ xs))) _ cond xs _ (reads_condition opening ts closing xs cond o h c within)
-                (then_ok (ib xs) _ body ys _ b (then_ok ((free.else_part tokens braces) ib ys) _ other rest _ e refl))))
+        (then_ok ((free.condition tokens braces) (opening ∷ (ts ++ closing ∷ xs))) _ cond xs _ (reads_condition opening ts closing xs cond o h c within)
+        (then_ok (ib xs) _ body ys _ b (then_ok ((free.else_part tokens braces) ib ys) _ other rest _ e refl))))
 
     while_ok : (word opening : Terminal) (ts : List Terminal) (closing : Terminal) (xs : List Terminal) (cond : Expr) (body : List Stmt) (rest : List Terminal)
         → Is sort.While word → Is sort.OpenParen opening → IsExpr ts cond → Is sort.CloseParen closing → span (ts ++ closing ∷ xs) ≤ tokens → ib xs ≡ Ok (body, rest)
@@ -308,7 +308,7 @@ module _ (tokens braces : ℕ) where
     unfolding free.while_stmt
     while_ok word opening ts closing xs cond body rest w o h c within b =
         statement_at sort.While word (opening ∷ (ts ++ closing ∷ xs)) _ w (expect_then sort.While _ word (opening ∷ (ts ++ closing ∷ xs)) _ w
-            (then_ok ((free.condition tokens braces) (opening ∷ (ts ++ closing ∷ xs))) _ cond xs _ (reads_condition opening ts closing xs cond o h c within) (then_ok (ib xs) _ body rest _ b refl)))
+        (then_ok ((free.condition tokens braces) (opening ∷ (ts ++ closing ∷ xs))) _ cond xs _ (reads_condition opening ts closing xs cond o h c within) (then_ok (ib xs) _ body rest _ b refl)))
 
     no_else_ok : (rest : List Terminal) → same_sort (next_sort rest) sort.Else ≡ false → (free.else_part tokens braces) ib rest ≡ Ok (None, rest)
     unfolding free.else_part sees
@@ -336,7 +336,7 @@ module _ (tokens braces : ℕ) where
         let begun : (free.statement tokens braces) ib (b.first ∷ (b.others ++ xs)) ≡ Ok (s, xs) = ap (λ (l : List Terminal). (free.statement tokens braces) ib (l ++ xs)) b.split ∙ h in
         ap (λ (l : List Terminal). Stmts items (l ++ xs)) (sym b.split)
         ∙ turns_go r.in_block (one_more ((free.statement tokens braces) ib)) items (items ++ s ∷ []) b.first (b.others ++ xs) xs (in_block_of b.first.sort b.starts)
-            (then_ok ((free.statement tokens braces) ib (b.first ∷ (b.others ++ xs))) _ s xs _ begun refl) (omega (arith, length-append b.others xs))
+        (then_ok ((free.statement tokens braces) ib (b.first ∷ (b.others ++ xs))) _ s xs _ begun refl) (omega (arith, length-append b.others xs))
 
   pub within_sign : {s : Sort} {n : ℕ} {t : Terminal} {us : List Terminal} → Is s t → step n s ≡ n → Within tokens braces n (t ∷ us) → Within tokens braces n us
   within_sign {s = s} {n = n} {us = us} h e w = subst (λ (m : ℕ). Within tokens braces m us) (ap (step n) h.same ∙ e) (within_next w).1
@@ -378,15 +378,15 @@ module _ (tokens braces : ℕ) where
     reads_stmt (g.var {word = word} {name = name} {colon = colon} {assign = assign} {semicolon = semicolon} {ts = ts} {us = us} {kind = kind} {v = v} w m c t a h s) d n rest room e within =
         let same : (word ∷ name ∷ colon ∷ ts ++ assign ∷ us ++ semicolon ∷ []) ++ rest ≡ word ∷ name ∷ colon ∷ (ts ++ assign ∷ (us ++ semicolon ∷ rest)) = simp append_assoc in
         ap ((free.statement tokens braces) ((free.blocks tokens braces) d)) same ∙ statement_at ((free.blocks tokens braces) d) sort.Var word (name ∷ colon ∷ (ts ++ assign ∷ (us ++ semicolon ∷ rest))) _ w
-            (reads_var word name colon ts assign us semicolon rest kind v w m c t a h s (subst (λ (l : List Terminal). span l ≤ tokens) same (within_span within)))
+        (reads_var word name colon ts assign us semicolon rest kind v w m c t a h s (subst (λ (l : List Terminal). span l ≤ tokens) same (within_span within)))
     reads_stmt (g.assigned {name = name} {assign = assign} {semicolon = semicolon} {ts = ts} {v = v} m a h s) d n rest room e within =
         let same : (name ∷ assign ∷ ts ++ semicolon ∷ []) ++ rest ≡ name ∷ assign ∷ (ts ++ semicolon ∷ rest) = simp append_assoc in
         ap ((free.statement tokens braces) ((free.blocks tokens braces) d)) same ∙ statement_at ((free.blocks tokens braces) d) sort.Name name (assign ∷ (ts ++ semicolon ∷ rest)) _ m
-            (reads_assign name assign ts semicolon rest v m a h s (subst (λ (l : List Terminal). span l ≤ tokens) same (within_span within)))
+        (reads_assign name assign ts semicolon rest v m a h s (subst (λ (l : List Terminal). span l ≤ tokens) same (within_span within)))
     reads_stmt (g.put {assign = assign} {semicolon = semicolon} {ts = ts} {us = us} {place = place} {v = v} p a h s) d n rest room e within =
         let same : (ts ++ assign ∷ us ++ semicolon ∷ []) ++ rest ≡ ts ++ assign ∷ (us ++ semicolon ∷ rest) = simp append_assoc in
         let less : span (us ++ semicolon ∷ rest) < tokens =
-            past assign (us ++ semicolon ∷ rest) tokens (place_plain p) (is_plain refl a) (subst (λ (l : List Terminal). span l ≤ tokens) same (within_span within)) in
+        past assign (us ++ semicolon ∷ rest) tokens (place_plain p) (is_plain refl a) (subst (λ (l : List Terminal). span l ≤ tokens) same (within_span within)) in
         ap ((free.statement tokens braces) ((free.blocks tokens braces) d)) same ∙ put_of ((free.blocks tokens braces) d) assign us semicolon rest v (form_of p) a h s (omega arith)
     reads_stmt (g.if_then {word = word} {opening = opening} {closing = closing} {ts = ts} {us = us} {vs = vs} {cond = cond} {then = body} {other = other} w o h c b k) d n rest room e within =
         let same : (word ∷ opening ∷ ts ++ closing ∷ us ++ vs) ++ rest ≡ word ∷ opening ∷ (ts ++ closing ∷ (us ++ (vs ++ rest))) = simp append_assoc in
@@ -395,7 +395,7 @@ module _ (tokens braces : ℕ) where
         let blocks : Within tokens braces n (us ++ (vs ++ rest)) = within_sign c refl some in
         let last : Within tokens braces n (vs ++ rest) = within_even (vs ++ rest) (block_even b) blocks in
         let less : span (ts ++ closing ∷ (us ++ (vs ++ rest))) < tokens =
-            past {ts = word ∷ []} opening (ts ++ closing ∷ (us ++ (vs ++ rest))) tokens (plain_more (is_plain refl w) plain_end) (is_plain refl o) (within_span all) in
+        past {ts = word ∷ []} opening (ts ++ closing ∷ (us ++ (vs ++ rest))) tokens (plain_more (is_plain refl w) plain_end) (is_plain refl o) (within_span all) in
         ap ((free.statement tokens braces) ((free.blocks tokens braces) d)) same
         ∙ if_ok ((free.blocks tokens braces) d) word opening ts closing (us ++ (vs ++ rest)) cond body (vs ++ rest) other rest w o h c (omega arith) (reads_block b d n (vs ++ rest) room blocks) (reads_else k d n rest room e last)
     reads_stmt (g.while_do {word = word} {opening = opening} {closing = closing} {ts = ts} {us = us} {cond = cond} {body = body} w o h c b) d n rest room e within =
@@ -403,17 +403,17 @@ module _ (tokens braces : ℕ) where
         let all : Within tokens braces n (word ∷ opening ∷ (ts ++ closing ∷ (us ++ rest))) = subst (Within tokens braces n) same within in
         let some : Within tokens braces n (closing ∷ (us ++ rest)) = within_plain {ws = word ∷ opening ∷ ts} (closing ∷ (us ++ rest)) (plain_more (is_plain refl w) (plain_more (is_plain refl o) (expr_words h).plain)) all in
         let less : span (ts ++ closing ∷ (us ++ rest)) < tokens =
-            past {ts = word ∷ []} opening (ts ++ closing ∷ (us ++ rest)) tokens (plain_more (is_plain refl w) plain_end) (is_plain refl o) (within_span all) in
+        past {ts = word ∷ []} opening (ts ++ closing ∷ (us ++ rest)) tokens (plain_more (is_plain refl w) plain_end) (is_plain refl o) (within_span all) in
         ap ((free.statement tokens braces) ((free.blocks tokens braces) d)) same
         ∙ while_ok ((free.blocks tokens braces) d) word opening ts closing (us ++ rest) cond body rest w o h c (omega arith) (reads_block b d n rest room (within_sign c refl some))
     reads_stmt (g.called {name = name} {opening = opening} {closing = closing} {semicolon = semicolon} {ts = ts} {args = args} m o h c s) d n rest room e within =
         let same : (name ∷ opening ∷ ts ++ closing ∷ semicolon ∷ []) ++ rest ≡ name ∷ opening ∷ (ts ++ closing ∷ semicolon ∷ rest) = simp append_assoc in
         ap ((free.statement tokens braces) ((free.blocks tokens braces) d)) same ∙ statement_at ((free.blocks tokens braces) d) sort.Name name (opening ∷ (ts ++ closing ∷ semicolon ∷ rest)) _ m
-            (reads_call name opening ts closing semicolon rest args m o h c s (subst (λ (l : List Terminal). span l ≤ tokens) same (within_span within)))
+        (reads_call name opening ts closing semicolon rest args m o h c s (subst (λ (l : List Terminal). span l ≤ tokens) same (within_span within)))
     reads_stmt (g.check {word = word} {semicolon = semicolon} {ts = ts} {body = body} w h s) d n rest room e within =
         let same : (word ∷ ts ++ semicolon ∷ []) ++ rest ≡ word ∷ (ts ++ semicolon ∷ rest) = simp append_assoc in
         ap ((free.statement tokens braces) ((free.blocks tokens braces) d)) same ∙ statement_at ((free.blocks tokens braces) d) sort.Check word (ts ++ semicolon ∷ rest) _ w
-            (reads_check word ts semicolon rest body w h s (subst (λ (l : List Terminal). span l ≤ tokens) same (within_span within)))
+        (reads_check word ts semicolon rest body w h s (subst (λ (l : List Terminal). span l ≤ tokens) same (within_span within)))
 
     reads_else : {ts : List Terminal} {b : Option (List Stmt)} → IsElse ts b → (d n : ℕ) (rest : List Terminal) → Room n d → same_sort (next_sort rest) sort.Else ≡ false → Within tokens braces n (ts ++ rest)
         → (free.else_part tokens braces) ((free.blocks tokens braces) d) (ts ++ rest) ≡ Ok (b, rest)
@@ -425,7 +425,7 @@ module _ (tokens braces : ℕ) where
         let same : (opening ∷ ts ++ closing ∷ []) ++ rest ≡ opening ∷ (ts ++ closing ∷ rest) = simp append_assoc in
         let all : Within tokens braces n (opening ∷ (ts ++ closing ∷ rest)) = subst (Within tokens braces n) same within in
         ap ((free.blocks tokens braces) d) same ∙ deeper d n opening (ts ++ closing ∷ rest) body rest room o all
-            (λ k more inside. block_ok ((free.blocks tokens braces) k) opening (ts ++ closing ∷ rest) body closing rest o (reads_stmts h k (suc n) [] closing rest more c inside) c)
+        (λ k more inside. block_ok ((free.blocks tokens braces) k) opening (ts ++ closing ∷ rest) body closing rest o (reads_stmts h k (suc n) [] closing rest more c inside) c)
 
     reads_stmts : {ts : List Terminal} {ss : List Stmt} → AreStmts ts ss → (d n : ℕ) (items : List Stmt) (closing : Terminal) (rest : List Terminal) → Room n d → Is sort.CloseBrace closing → Within tokens braces n (ts ++ closing ∷ rest)
         → Stmts ((free.blocks tokens braces) d) items (ts ++ closing ∷ rest) ≡ Ok (items ++ ss, closing ∷ rest)

@@ -121,7 +121,7 @@ pub stops_at_fault : (ts rest : List Terminal) → Within MOST_TOKENS_BETWEEN MO
 stops_at_fault ts rest w e =
     let same : free.program MOST_TOKENS_BETWEEN MOST_OPEN_BRACES ts ≡ Err rest = sym (ap (λ (f : List Terminal → Outcome Program). f ts) program_same) ∙ e in
     let fault : Faults grammar (part chart.program ∷ []) ts (Some rest) =
-        subst (λ (o : Outcome Program). Final MOST_TOKENS_BETWEEN MOST_OPEN_BRACES (part chart.program ∷ []) ts o) same (follows_program MOST_TOKENS_BETWEEN MOST_OPEN_BRACES ts w) in
+    subst (λ (o : Outcome Program). Final MOST_TOKENS_BETWEEN MOST_OPEN_BRACES (part chart.program ∷ []) ts o) same (follows_program MOST_TOKENS_BETWEEN MOST_OPEN_BRACES ts w) in
     first_of ts rest (first_fault grammar samples chart.program checked ts rest fault)
 
 -- ---- one first fault

@@ -88,15 +88,15 @@ module _ {A : Type 0} (item : Reader A) (P : List Terminal → A → Type 0) (W 
   turn_reads : (xs : List A) (t : Terminal) (ts : List Terminal) → W (t ∷ ts) → is_sort sort.Comma t.sort ≡ true → Follows (token sort.Comma ∷ part item_part ∷ []) (t ∷ ts) (Turn xs (t ∷ ts))
   turn_reads xs t ts w e =
       follows_map (token sort.Comma ∷ part item_part ∷ []) (t ∷ ts) ((expect sort.Comma >> item) (t ∷ ts)) (λ x. xs ++ x ∷ [])
-          (follows_expect sort.Comma (part item_part ∷ []) (t ∷ ts) (λ _. item)
-              (λ c us split h. reads us (onward (c ∷ []) us (plain_more (is_plain refl h) plain_end) (subst W split w))))
+      (follows_expect sort.Comma (part item_part ∷ []) (t ∷ ts) (λ _. item)
+      (λ c us split h. reads us (onward (c ∷ []) us (plain_more (is_plain refl h) plain_end) (subst W split w))))
 
   turn_sound : (xs : List A) (t : Terminal) (ts : List Terminal) → Sound (λ ws y. Used Plain ws) (t ∷ ts) (Turn xs (t ∷ ts))
   turn_sound xs t ts =
       sound_map (λ ws x. Used Plain ws) (λ ws y. Used Plain ws) (t ∷ ts) ((expect sort.Comma >> item) (t ∷ ts)) (λ x. xs ++ x ∷ [])
-          (sound_expect sort.Comma (λ ws x. Used Plain ws) (t ∷ ts) (λ _. item)
-              (λ c us h. sound_weaken P (After (c ∷ []) (λ ws x. Used Plain ws)) us (item us) (sound us) (λ ws x p. used_sign c ws (is_plain refl h) (plain ws x p))))
-          (λ ws x u. u)
+      (sound_expect sort.Comma (λ ws x. Used Plain ws) (t ∷ ts) (λ _. item)
+      (λ c us h. sound_weaken P (After (c ∷ []) (λ ws x. Used Plain ws)) us (item us) (sound us) (λ ws x p. used_sign c ws (is_plain refl h) (plain ws x p))))
+      (λ ws x u. u)
 
   comma_choice : (s : Sort) → is_sort sort.Comma s ≡ true → chosen tail s ≡ Some ((token sort.Comma ∷ part item_part ∷ []) ++ part tail ∷ [])
   comma_choice s e = ap (chosen tail) (comma_asks s e) ∙ goes_on
@@ -109,7 +109,7 @@ module _ {A : Type 0} (item : Reader A) (P : List Terminal → A → Type 0) (W 
   unfolding listed
   follows_listed ts w =
       follows_then (part item_part ∷ []) (part tail ∷ []) ts (item ts) (λ x. turns (is_sort sort.Comma) Turn (x ∷ [])) (reads ts w)
-          (λ x us e. follows_tail (x ∷ []) us (left ts (item ts) x us e (sound ts) w))
+      (λ x us e. follows_tail (x ∷ []) us (left ts (item ts) x us e (sound ts) w))
     where
       left : (ts : List Terminal) (o : Outcome A) (x : A) (us : List Terminal) → o ≡ Ok (x, us) → Sound P ts o → W ts → W us
       left ts o x us e s w =
@@ -125,7 +125,7 @@ module _ {A : Type 0} (item : Reader A) (P : List Terminal → A → Type 0) (W 
   unfolding enclosed
   follows_enclosed ts w =
       follows_then (part whole ∷ []) (token sort.CloseParen ∷ []) ts ((if sees sort.CloseParen ts then pure [] else listed item) ts) _ (maybe ts (sees sort.CloseParen ts) w refl)
-          (λ xs us e. follows_expect sort.CloseParen [] us _ (λ t vs split h. stays vs))
+      (λ xs us e. follows_expect sort.CloseParen [] us _ (λ t vs split h. stays vs))
 
 -- ---- fields
 
@@ -155,7 +155,7 @@ pub follows_fields : (object : Expr) (ts : List Terminal) → Follows (part char
 unfolding r.fields_after
 follows_fields object ts =
     follows_turns (is_sort sort.Dot) r.field_after chart.field_tail (λ s. token sort.Dot ∷ token sort.Name ∷ []) always Plain dot_choice dot_ends dot_nothing
-        (λ x t us w e. follows_field x (t ∷ us)) field_sound (λ ws us p w. tt) object ts tt
+    (λ x t us w e. follows_field x (t ∷ us)) field_sound (λ ws us p w. tt) object ts tt
 
 pub follows_shared : (ts : List Terminal) → Follows (token sort.Shared ∷ token sort.Dot ∷ token sort.Name ∷ []) ts (r.shared_field ts)
 unfolding r.shared_field
@@ -205,9 +205,9 @@ module _ (d : ℕ) (whole : (ts : List Terminal) → span ts < d → Follows (pa
   call_at name us false e w = stays_part chart.call_tail us (told_no (same_sort (next_sort us) sort.OpenParen) _ _ e)
   call_at name us true e w =
       follows_part {A = Expr} chart.call_tail (token sort.OpenParen ∷ part chart.args ∷ token sort.CloseParen ∷ []) us ((expect sort.OpenParen >> (λ found. expr.Call name.bytes found name.site) <$> r.args (r.nested d)) us) (told_yes (same_sort (next_sort us) sort.OpenParen) _ _ e)
-          (follows_expect sort.OpenParen (part chart.args ∷ token sort.CloseParen ∷ []) us _ (λ opening vs f h.
-              follows_map (part chart.args ∷ token sort.CloseParen ∷ []) vs (enclosed (listed (r.nested d level.Whole)) vs) (λ found. expr.Call name.bytes found name.site)
-                  (follows_args (λ l. span l < d) (r.nested d level.Whole) whole (sound_whole d) (λ ws rest p x. omega (arith, span_after p rest)) vs (omega (arith, next_span us opening vs f h refl)))))
+      (follows_expect sort.OpenParen (part chart.args ∷ token sort.CloseParen ∷ []) us _ (λ opening vs f h.
+      follows_map (part chart.args ∷ token sort.CloseParen ∷ []) vs (enclosed (listed (r.nested d level.Whole)) vs) (λ found. expr.Call name.bytes found name.site)
+      (follows_args (λ l. span l < d) (r.nested d level.Whole) whole (sound_whole d) (λ ws rest p x. omega (arith, span_after p rest)) vs (omega (arith, next_span us opening vs f h refl)))))
 
   follows_named : (ts : List Terminal) → span ts ≤ d → Follows (token sort.Name ∷ part chart.call_tail ∷ []) ts (r.named (r.nested d) ts)
   unfolding r.named
@@ -217,7 +217,7 @@ module _ (d : ℕ) (whole : (ts : List Terminal) → span ts < d → Follows (pa
   unfolding r.paren
   follows_paren ts w = follows_expect sort.OpenParen (part chart.expr ∷ token sort.CloseParen ∷ []) ts _ (λ opening us e h.
       follows_then (part chart.expr ∷ []) (token sort.CloseParen ∷ []) us (r.nested d level.Whole us) _ (whole us (omega (arith, next_span ts opening us e h refl)))
-          (λ x vs f. follows_expect sort.CloseParen [] vs _ (λ closing ws g k. stays ws)))
+      (λ x vs f. follows_expect sort.CloseParen [] vs _ (λ closing ws g k. stays ws)))
 
   primary_at : (s : Sort) (ts : List Terminal) → next_sort ts ≡ s → span ts ≤ d → Follows (part chart.primary ∷ []) ts (r.primary_by (r.nested d) s ts)
   unfolding same_sort
@@ -263,7 +263,7 @@ module _ (d : ℕ) (whole : (ts : List Terminal) → span ts < d → Follows (pa
   unfolding r.link
   link_sound c operand P sound plain left t ts =
       sound_binary (r.nested d) (sound_whole d) (sound_prefixed d) P (λ ws y. Used Plain ws) operand sound [] (t ∷ ts) left (chained c t.sort)
-          (λ mark us op right same is_op p. used_sign mark us (chained_plain c mark.sort op (ap (chained c) (sym same) ∙ is_op)) (plain us right p))
+      (λ mark us op right same is_op p. used_sign mark us (chained_plain c mark.sort op (ap (chained c) (sym same) ∙ is_op)) (plain us right p))
 
   chain_yes : (c : Chain) (s : Sort) (o : Option Op) → chained c s ≡ o → is_some o ≡ true → chosen (tail_of c) s ≡ Some ((token s ∷ part (operand_of c) ∷ []) ++ part (tail_of c) ∷ [])
   chain_yes c s None e h = absurd cc
@@ -285,11 +285,11 @@ module _ (d : ℕ) (whole : (ts : List Terminal) → span ts < d → Follows (pa
   unfolding r.linked r.link
   follows_linked c operand P sound plain reads ts w =
       follows_part (whole_of c) (part (operand_of c) ∷ part (tail_of c) ∷ []) ts (r.linked (r.nested d) c operand ts) (chain_begins c (next_sort ts))
-          (follows_then (part (operand_of c) ∷ []) (part (tail_of c) ∷ []) ts (operand ts) (turns (r.is_operator c) (r.link (r.nested d) c operand)) (reads ts w)
-              (λ x us e. follows_turns (r.is_operator c) (r.link (r.nested d) c operand) (tail_of c) (λ s. token s ∷ part (operand_of c) ∷ []) (λ l. span l ≤ d) Plain
-                  (λ s h. chain_yes c s (chained c s) refl h) (λ s h. chain_no c s (chained c s) refl h) (chain_nothing c)
-                  (λ left t vs v h. link_reads c operand reads left t vs (chained c t.sort) refl h v) (link_sound c operand P sound plain) (plain_onward d)
-                  x us (omega (arith, low P plain ts (operand ts) x us (sound ts) e))))
+      (follows_then (part (operand_of c) ∷ []) (part (tail_of c) ∷ []) ts (operand ts) (turns (r.is_operator c) (r.link (r.nested d) c operand)) (reads ts w)
+      (λ x us e. follows_turns (r.is_operator c) (r.link (r.nested d) c operand) (tail_of c) (λ s. token s ∷ part (operand_of c) ∷ []) (λ l. span l ≤ d) Plain
+      (λ s h. chain_yes c s (chained c s) refl h) (λ s h. chain_no c s (chained c s) refl h) (chain_nothing c)
+      (λ left t vs v h. link_reads c operand reads left t vs (chained c t.sort) refl h v) (link_sound c operand P sound plain) (plain_onward d)
+      x us (omega (arith, low P plain ts (operand ts) x us (sound ts) e))))
 
   follows_term : (ts : List Terminal) → span ts ≤ d → Follows (part chart.term ∷ []) ts (r.term (r.nested d) ts)
   unfolding r.term
@@ -303,15 +303,15 @@ module _ (d : ℕ) (whole : (ts : List Terminal) → span ts < d → Follows (pa
   compare left ts None e w = stays_part chart.cmp_tail ts (comparison_ends (next_sort ts) e)
   compare left ts (Some op) e w = follows_part chart.cmp_tail (token (next_sort ts) ∷ part chart.sum ∷ []) ts (r.binary (r.nested d) (r.sum (r.nested d)) left (Some op) ts) (comparison_goes_on (next_sort ts) op e)
       (follows_take (next_sort ts) (part chart.sum ∷ []) ts _ refl (compared_other (next_sort ts) op e)
-          (λ mark us g h. follows_map (part chart.sum ∷ []) us (r.sum (r.nested d) us) (λ right. expr.Binary op left right mark.site)
-              (follows_sum us (omega (arith, next_span ts mark us g h (compared_plain (next_sort ts) op e))))))
+      (λ mark us g h. follows_map (part chart.sum ∷ []) us (r.sum (r.nested d) us) (λ right. expr.Binary op left right mark.site)
+      (follows_sum us (omega (arith, next_span ts mark us g h (compared_plain (next_sort ts) op e))))))
 
   follows_cmp : (ts : List Terminal) → span ts ≤ d → Follows (part chart.cmp ∷ []) ts (r.cmp (r.nested d) ts)
   unfolding r.cmp
   follows_cmp ts w = follows_part chart.cmp (part chart.sum ∷ part chart.cmp_tail ∷ []) ts (r.cmp (r.nested d) ts) refl
       (follows_then (part chart.sum ∷ []) (part chart.cmp_tail ∷ []) ts (r.sum (r.nested d) ts) _ (follows_sum ts w)
-          (λ left us e. compare left us (compared (next_sort us)) refl
-              (omega (arith, low IsSum (λ ws x h. (sum_words h).plain) ts (r.sum (r.nested d) ts) left us (sound_sum (r.nested d) (sound_whole d) (sound_prefixed d) ts) e))))
+      (λ left us e. compare left us (compared (next_sort us)) refl
+      (omega (arith, low IsSum (λ ws x h. (sum_words h).plain) ts (r.sum (r.nested d) ts) left us (sound_sum (r.nested d) (sound_whole d) (sound_prefixed d) ts) e))))
 
   follows_and : (ts : List Terminal) → span ts ≤ d → Follows (part chart.and ∷ []) ts (r.and (r.nested d) ts)
   unfolding r.and
@@ -326,23 +326,24 @@ module _ (d : ℕ) (whole : (ts : List Terminal) → span ts < d → Follows (pa
   branches_at test ts false e w = stays_part chart.cond_tail ts (told_no (same_sort (next_sort ts) sort.Question) _ _ e)
   branches_at test ts true e w =
       follows_part chart.cond_tail (token sort.Question ∷ part chart.expr ∷ token sort.Colon ∷ part chart.expr ∷ []) ts (r.branches (r.nested d) test ts) (told_yes (same_sort (next_sort ts) sort.Question) _ _ e)
-          (follows_expect sort.Question (part chart.expr ∷ token sort.Colon ∷ part chart.expr ∷ []) ts _ (λ question us g h.
-              let one : span us < d = omega (arith, next_span ts question us g h refl) in
-              follows_then (part chart.expr ∷ []) (token sort.Colon ∷ part chart.expr ∷ []) us (r.nested d level.Whole us) _ (whole us one) (λ left vs k.
-                  let two : span vs ≤ span us = low IsExpr (λ ws x p. (expr_words p).plain) us (r.nested d level.Whole us) left vs (sound_whole d us) k in
-                  follows_expect sort.Colon (part chart.expr ∷ []) vs _ (λ colon ws l m.
-                      follows_map (part chart.expr ∷ []) ws (r.nested d level.Whole ws) _ (whole ws (omega (arith, next_span vs colon ws l m refl)))))))
+      (follows_expect sort.Question (part chart.expr ∷ token sort.Colon ∷ part chart.expr ∷ []) ts _ (λ question us g h.
+      let one : span us < d = omega (arith, next_span ts question us g h refl) in
+      follows_then (part chart.expr ∷ []) (token sort.Colon ∷ part chart.expr ∷ []) us (r.nested d level.Whole us) _ (whole us one) (λ left vs k.
+      let two : span vs ≤ span us = low IsExpr (λ ws x p. (expr_words p).plain) us (r.nested d level.Whole us) left vs (sound_whole d us) k in
+      follows_expect sort.Colon (part chart.expr ∷ []) vs _ (λ colon ws l m.
+      follows_map (part chart.expr ∷ []) ws (r.nested d level.Whole ws) _ (whole ws (omega (arith, next_span vs colon ws l m refl)))))))
 
   follows_choice : (ts : List Terminal) → span ts ≤ d → Follows (part chart.expr ∷ []) ts (r.choice (r.nested d) ts)
   unfolding r.choice
   follows_choice ts w = follows_part chart.expr (part chart.or ∷ part chart.cond_tail ∷ []) ts (r.choice (r.nested d) ts) refl
       (follows_then (part chart.or ∷ []) (part chart.cond_tail ∷ []) ts (r.or (r.nested d) ts) _ (follows_or ts w)
-          (λ test us e. branches_at test us (sees sort.Question us) refl (omega (arith, low IsOr (λ ws x h. (or_words h).plain) ts (r.or (r.nested d) ts) test us (sound_or (r.nested d) (sound_whole d) (sound_prefixed d) ts) e))))
+      (λ test us e. branches_at test us (sees sort.Question us) refl (omega (arith, low IsOr (λ ws x h. (or_words h).plain) ts (r.or (r.nested d) ts) test us (sound_or (r.nested d) (sound_whole d) (sound_prefixed d) ts) e))))
 
 -- ---- expressions
 
 mutual
   unfolding r.nested
+
   pub follows_whole : (d : ℕ) (ts : List Terminal) → span ts < d → Follows (part chart.expr ∷ []) ts (r.nested d level.Whole ts)
   follows_whole zero ts w = absurd (omega arith)
   follows_whole (suc d) ts w = follows_choice d (follows_whole d) (follows_prefixed d) ts (omega arith)

@@ -61,21 +61,21 @@ module _ (tokens braces : ℕ) where
   unfolding r.field
   follows_field ts = follows_part chart.field (token sort.Name ∷ token sort.Colon ∷ part chart.type ∷ token sort.Semicolon ∷ []) ts (r.field ts) refl
       (follows_expect sort.Name _ ts _ (λ name us e h.
-          follows_then (token sort.Colon ∷ part chart.type ∷ []) (token sort.Semicolon ∷ []) us (r.typed us) _ (follows_typed us) (λ kind vs f. follows_expect sort.Semicolon [] vs _ (λ semicolon xs g k. stays xs))))
+      follows_then (token sort.Colon ∷ part chart.type ∷ []) (token sort.Semicolon ∷ []) us (r.typed us) _ (follows_typed us) (λ kind vs f. follows_expect sort.Semicolon [] vs _ (λ semicolon xs g k. stays xs))))
 
   follows_fields : (ts : List Terminal) → Follows (token sort.OpenBrace ∷ part chart.fields ∷ token sort.CloseBrace ∷ []) ts (r.fields ts)
   unfolding r.fields
   follows_fields ts = follows_expect sort.OpenBrace _ ts _ (λ opening us e h.
       follows_then (part chart.fields ∷ []) (token sort.CloseBrace ∷ []) us (many (is_sort sort.Name) r.field us) _
-          (follows_many tokens braces sort.Name r.field IsField chart.fields chart.field always (λ ws x p. field_begins tokens braces p) (λ ws x p. field_even tokens braces p) (λ vs w. follows_field vs) (sound_field tokens braces) (λ ws vs q w. tt)
-              (λ x f. told_yes (same_sort x sort.Name) _ _ f) (λ x f. told_no (same_sort x sort.Name) _ _ f) nothing_comes.4 us tt)
-          (λ fields vs f. follows_expect sort.CloseBrace [] vs _ (λ closing xs g k. stays xs)))
+      (follows_many tokens braces sort.Name r.field IsField chart.fields chart.field always (λ ws x p. field_begins tokens braces p) (λ ws x p. field_even tokens braces p) (λ vs w. follows_field vs) (sound_field tokens braces) (λ ws vs q w. tt)
+      (λ x f. told_yes (same_sort x sort.Name) _ _ f) (λ x f. told_no (same_sort x sort.Name) _ _ f) nothing_comes.4 us tt)
+      (λ fields vs f. follows_expect sort.CloseBrace [] vs _ (λ closing xs g k. stays xs)))
 
   follows_class : (ts : List Terminal) → Follows (part chart.class ∷ []) ts (r.class ts)
   unfolding r.class
   follows_class ts = follows_part chart.class (token sort.Class ∷ token sort.Name ∷ token sort.OpenBrace ∷ part chart.fields ∷ token sort.CloseBrace ∷ []) ts (r.class ts) refl
       (follows_expect sort.Class _ ts _ (λ word us e h. follows_expect sort.Name _ us _ (λ name vs f k.
-          follows_map (token sort.OpenBrace ∷ part chart.fields ∷ token sort.CloseBrace ∷ []) vs (r.fields vs) _ (follows_fields vs))))
+      follows_map (token sort.OpenBrace ∷ part chart.fields ∷ token sort.CloseBrace ∷ []) vs (r.fields vs) _ (follows_fields vs))))
 
   shared_at : (ts : List Terminal) (b : Bool) → sees sort.Shared ts ≡ b → Follows (part chart.shared_block ∷ []) ts ((if b then (expect sort.Shared >> r.fields) else pure []) ts)
   unfolding sees
@@ -98,7 +98,7 @@ module _ (tokens braces : ℕ) where
   unfolding r.params
   follows_params ts = follows_expect sort.OpenParen _ ts (λ _. enclosed (listed r.param)) (λ opening us e h.
       follows_enclosed r.param IsParam always chart.params chart.param chart.params_tail (λ vs w. follows_param vs) (sound_param tokens braces) (λ ws x p. param_plain tokens braces p) (λ ws vs q w. tt)
-          params_facts.0 (λ s f. told_no (same_sort s sort.CloseParen) _ _ f) params_facts.1 (λ s f. told_no (same_sort s sort.Comma) _ _ f) params_facts.2 us tt)
+      params_facts.0 (λ s f. told_no (same_sort s sort.CloseParen) _ _ f) params_facts.1 (λ s f. told_no (same_sort s sort.Comma) _ _ f) params_facts.2 us tt)
 
   params_even : (ws : List Terminal) (x : List Param) → InParens tokens braces ws x → Plain ws
   params_even ws x p = subst Plain p.split (plain_more (is_plain refl p.is_opening) (plain_append (params_plain tokens braces p.are_params) (plain_more (is_plain refl p.is_closing) plain_end)))
@@ -110,29 +110,29 @@ module _ (tokens braces : ℕ) where
   follows_pred ts w = follows_part chart.pred
       (token sort.Pred ∷ token sort.Name ∷ token sort.OpenParen ∷ part chart.params ∷ token sort.CloseParen ∷ token sort.Colon ∷ part chart.type ∷ token sort.Assign ∷ part chart.expr ∷ token sort.Semicolon ∷ []) ts (free.pred tokens braces ts) refl
       (follows_expect sort.Pred _ ts _ (λ word us e h. follows_expect sort.Name _ us _ (λ name vs f k.
-          let one : span vs ≤ tokens = omega (arith, within_span w, next_span ts word us e h refl, next_span us name vs f k refl) in
-          follows_then (token sort.OpenParen ∷ part chart.params ∷ token sort.CloseParen ∷ []) _ vs (r.params vs) _ (follows_params vs) (λ params xs p.
-              let two : span xs ≤ tokens = omega (arith, low (InParens tokens braces) params_even vs (r.params vs) params xs (sound_params tokens braces vs) p) in
-              follows_then (token sort.Colon ∷ part chart.type ∷ []) _ xs (r.typed xs) _ (follows_typed xs) (λ kind ys q.
-                  let three : span ys ≤ tokens = omega (arith, low (AfterSign tokens braces sort.Colon IsType) (typed_plain tokens braces) xs (r.typed xs) kind ys (sound_typed tokens braces xs) q) in
-                  follows_expect sort.Assign _ ys _ (λ assign zs g l.
-                      follows_then (part chart.expr ∷ []) (token sort.Semicolon ∷ []) zs (free.whole tokens braces zs) _ (follows_expr tokens braces zs (omega (arith, next_span ys assign zs g l refl)))
-                          (λ body rest m. follows_expect sort.Semicolon [] rest _ (λ semicolon left i j. stays left))))))))
+      let one : span vs ≤ tokens = omega (arith, within_span w, next_span ts word us e h refl, next_span us name vs f k refl) in
+      follows_then (token sort.OpenParen ∷ part chart.params ∷ token sort.CloseParen ∷ []) _ vs (r.params vs) _ (follows_params vs) (λ params xs p.
+      let two : span xs ≤ tokens = omega (arith, low (InParens tokens braces) params_even vs (r.params vs) params xs (sound_params tokens braces vs) p) in
+      follows_then (token sort.Colon ∷ part chart.type ∷ []) _ xs (r.typed xs) _ (follows_typed xs) (λ kind ys q.
+      let three : span ys ≤ tokens = omega (arith, low (AfterSign tokens braces sort.Colon IsType) (typed_plain tokens braces) xs (r.typed xs) kind ys (sound_typed tokens braces xs) q) in
+      follows_expect sort.Assign _ ys _ (λ assign zs g l.
+      follows_then (part chart.expr ∷ []) (token sort.Semicolon ∷ []) zs (free.whole tokens braces zs) _ (follows_expr tokens braces zs (omega (arith, next_span ys assign zs g l refl)))
+      (λ body rest m. follows_expect sort.Semicolon [] rest _ (λ semicolon left i j. stays left))))))))
 
   follows_proc : (ts : List Terminal) → Within tokens braces 0 ts → Follows (part chart.proc ∷ []) ts (free.proc tokens braces ts)
   unfolding free.proc
   follows_proc ts w = follows_part chart.proc (token sort.Proc ∷ token sort.Name ∷ token sort.OpenParen ∷ part chart.params ∷ token sort.CloseParen ∷ part chart.block ∷ []) ts (free.proc tokens braces ts) refl
       (follows_expect sort.Proc _ ts _ (λ word us e h. follows_expect sort.Name _ us _ (λ name vs f k.
-          let one : Within tokens braces 0 vs = within_sign tokens braces 0 us vs f k refl (within_sign tokens braces 0 ts us e h refl w) in
-          follows_then (token sort.OpenParen ∷ part chart.params ∷ token sort.CloseParen ∷ []) (part chart.block ∷ []) vs (r.params vs) _ (follows_params vs) (λ params xs p.
-              follows_map (part chart.block ∷ []) xs (free.body_block tokens braces xs) _ (follows_body tokens braces xs
-                  (within_left tokens braces 0 (InParens tokens braces) (λ ws x q. even_plain (params_even ws x q)) vs (r.params vs) params xs (sound_params tokens braces vs) p one))))))
+      let one : Within tokens braces 0 vs = within_sign tokens braces 0 us vs f k refl (within_sign tokens braces 0 ts us e h refl w) in
+      follows_then (token sort.OpenParen ∷ part chart.params ∷ token sort.CloseParen ∷ []) (part chart.block ∷ []) vs (r.params vs) _ (follows_params vs) (λ params xs p.
+      follows_map (part chart.block ∷ []) xs (free.body_block tokens braces xs) _ (follows_body tokens braces xs
+      (within_left tokens braces 0 (InParens tokens braces) (λ ws x q. even_plain (params_even ws x q)) vs (r.params vs) params xs (sound_params tokens braces vs) p one))))))
 
   follows_thread : (ts : List Terminal) → Within tokens braces 0 ts → Follows (part chart.thread ∷ []) ts (free.thread tokens braces ts)
   unfolding free.thread
   follows_thread ts w = follows_part chart.thread (token sort.Thread ∷ token sort.Name ∷ part chart.block ∷ []) ts (free.thread tokens braces ts) refl
       (follows_expect sort.Thread _ ts _ (λ word us e h. follows_expect sort.Name _ us _ (λ name vs f k.
-          follows_map (part chart.block ∷ []) vs (free.body_block tokens braces vs) _ (follows_body tokens braces vs (within_sign tokens braces 0 us vs f k refl (within_sign tokens braces 0 ts us e h refl w))))))
+      follows_map (part chart.block ∷ []) vs (free.body_block tokens braces vs) _ (follows_body tokens braces vs (within_sign tokens braces 0 us vs f k refl (within_sign tokens braces 0 ts us e h refl w))))))
 
   -- ---- programs
 
@@ -166,24 +166,24 @@ module _ (tokens braces : ℕ) where
   unfolding free.program
   follows_program ts w = final_part (part chart.classes ∷ part chart.shared_block ∷ part chart.preds ∷ part chart.procs ∷ part chart.threads ∷ []) ts (free.program tokens braces ts) refl
       (final_then (part chart.classes ∷ []) _ ts (many (is_sort sort.Class) r.class ts) _
-          (follows_many tokens braces sort.Class r.class IsClass chart.classes chart.class (Within tokens braces 0) (λ ws x p. class_begins tokens braces p) (λ ws x p. class_even tokens braces p) (λ us v. follows_class us) (sound_class tokens braces)
-              (λ ws us e v. within_even us e v) (λ x f. told_yes (same_sort x sort.Class) _ _ f) (λ x f. told_no (same_sort x sort.Class) _ _ f) nothing_comes.0 ts w)
-          (λ classes us a. let one : Within tokens braces 0 us = items IsClass (λ ws x p. class_even tokens braces p) ts (many (is_sort sort.Class) r.class ts) classes us (sound_items tokens braces r.class IsClass (sound_class tokens braces) sort.Class ts) a w in
-              final_then (part chart.shared_block ∷ []) _ us (r.shared_block us) _ (follows_shared us) (λ shared vs b.
-                  let two : Within tokens braces 0 vs = within_left tokens braces 0 IsShared (λ ws x p. shared_even tokens braces p) us (r.shared_block us) shared vs (sound_shared_block tokens braces us) b one in
-                  final_then (part chart.preds ∷ []) _ vs (many (is_sort sort.Pred) (free.pred tokens braces) vs) _
-                      (follows_many tokens braces sort.Pred (free.pred tokens braces) IsPred chart.preds chart.pred (Within tokens braces 0) (λ ws x p. pred_begins tokens braces p) (λ ws x p. pred_even tokens braces p) follows_pred (sound_pred tokens braces)
-                          (λ ws us e v. within_even us e v) (λ x f. told_yes (same_sort x sort.Pred) _ _ f) (λ x f. told_no (same_sort x sort.Pred) _ _ f) nothing_comes.1 vs two)
-                      (λ preds xs c.
-                          let three : Within tokens braces 0 xs = items IsPred (λ ws x p. pred_even tokens braces p) vs (many (is_sort sort.Pred) (free.pred tokens braces) vs) preds xs
-                              (sound_items tokens braces (free.pred tokens braces) IsPred (sound_pred tokens braces) sort.Pred vs) c two in
-                          final_then (part chart.procs ∷ []) _ xs (many (is_sort sort.Proc) (free.proc tokens braces) xs) _
-                              (follows_many tokens braces sort.Proc (free.proc tokens braces) IsProc chart.procs chart.proc (Within tokens braces 0) (λ ws x p. proc_begins tokens braces p) (λ ws x p. proc_even tokens braces p) follows_proc (sound_proc tokens braces)
-                                  (λ ws us e v. within_even us e v) (λ x f. told_yes (same_sort x sort.Proc) _ _ f) (λ x f. told_no (same_sort x sort.Proc) _ _ f) nothing_comes.2 xs three)
-                              (λ procs ys d.
-                                  let four : Within tokens braces 0 ys = items IsProc (λ ws x p. proc_even tokens braces p) xs (many (is_sort sort.Proc) (free.proc tokens braces) xs) procs ys
-                                      (sound_items tokens braces (free.proc tokens braces) IsProc (sound_proc tokens braces) sort.Proc xs) d three in
-                                  final_then (part chart.threads ∷ []) [] ys (many (is_sort sort.Thread) (free.thread tokens braces) ys) _
-                                      (follows_many tokens braces sort.Thread (free.thread tokens braces) IsThread chart.threads chart.thread (Within tokens braces 0) (λ ws x p. thread_begins tokens braces p) (λ ws x p. thread_even tokens braces p) follows_thread
-                                          (sound_thread tokens braces) (λ ws us e v. within_even us e v) (λ x f. told_yes (same_sort x sort.Thread) _ _ f) (λ x f. told_no (same_sort x sort.Thread) _ _ f) nothing_comes.3 ys four)
-                                      (λ threads zs e. final_finish zs _))))))
+      (follows_many tokens braces sort.Class r.class IsClass chart.classes chart.class (Within tokens braces 0) (λ ws x p. class_begins tokens braces p) (λ ws x p. class_even tokens braces p) (λ us v. follows_class us) (sound_class tokens braces)
+      (λ ws us e v. within_even us e v) (λ x f. told_yes (same_sort x sort.Class) _ _ f) (λ x f. told_no (same_sort x sort.Class) _ _ f) nothing_comes.0 ts w)
+      (λ classes us a. let one : Within tokens braces 0 us = items IsClass (λ ws x p. class_even tokens braces p) ts (many (is_sort sort.Class) r.class ts) classes us (sound_items tokens braces r.class IsClass (sound_class tokens braces) sort.Class ts) a w in
+      final_then (part chart.shared_block ∷ []) _ us (r.shared_block us) _ (follows_shared us) (λ shared vs b.
+      let two : Within tokens braces 0 vs = within_left tokens braces 0 IsShared (λ ws x p. shared_even tokens braces p) us (r.shared_block us) shared vs (sound_shared_block tokens braces us) b one in
+      final_then (part chart.preds ∷ []) _ vs (many (is_sort sort.Pred) (free.pred tokens braces) vs) _
+      (follows_many tokens braces sort.Pred (free.pred tokens braces) IsPred chart.preds chart.pred (Within tokens braces 0) (λ ws x p. pred_begins tokens braces p) (λ ws x p. pred_even tokens braces p) follows_pred (sound_pred tokens braces)
+      (λ ws us e v. within_even us e v) (λ x f. told_yes (same_sort x sort.Pred) _ _ f) (λ x f. told_no (same_sort x sort.Pred) _ _ f) nothing_comes.1 vs two)
+      (λ preds xs c.
+      let three : Within tokens braces 0 xs = items IsPred (λ ws x p. pred_even tokens braces p) vs (many (is_sort sort.Pred) (free.pred tokens braces) vs) preds xs
+      (sound_items tokens braces (free.pred tokens braces) IsPred (sound_pred tokens braces) sort.Pred vs) c two in
+      final_then (part chart.procs ∷ []) _ xs (many (is_sort sort.Proc) (free.proc tokens braces) xs) _
+      (follows_many tokens braces sort.Proc (free.proc tokens braces) IsProc chart.procs chart.proc (Within tokens braces 0) (λ ws x p. proc_begins tokens braces p) (λ ws x p. proc_even tokens braces p) follows_proc (sound_proc tokens braces)
+      (λ ws us e v. within_even us e v) (λ x f. told_yes (same_sort x sort.Proc) _ _ f) (λ x f. told_no (same_sort x sort.Proc) _ _ f) nothing_comes.2 xs three)
+      (λ procs ys d.
+      let four : Within tokens braces 0 ys = items IsProc (λ ws x p. proc_even tokens braces p) xs (many (is_sort sort.Proc) (free.proc tokens braces) xs) procs ys
+      (sound_items tokens braces (free.proc tokens braces) IsProc (sound_proc tokens braces) sort.Proc xs) d three in
+      final_then (part chart.threads ∷ []) [] ys (many (is_sort sort.Thread) (free.thread tokens braces) ys) _
+      (follows_many tokens braces sort.Thread (free.thread tokens braces) IsThread chart.threads chart.thread (Within tokens braces 0) (λ ws x p. thread_begins tokens braces p) (λ ws x p. thread_even tokens braces p) follows_thread
+      (sound_thread tokens braces) (λ ws us e v. within_even us e v) (λ x f. told_yes (same_sort x sort.Thread) _ _ f) (λ x f. told_no (same_sort x sort.Thread) _ _ f) nothing_comes.3 ys four)
+      (λ threads zs e. final_finish zs _))))))

@@ -101,13 +101,13 @@ module _ (tokens braces : ℕ) where
   follows_cas ts w = follows_expect sort.Cas _ ts _ (λ word us e h. follows_expect sort.OpenParen _ us _ (λ opening vs f k.
       let one : span vs ≤ tokens = omega (arith, next_span ts word us e h refl, next_span us opening vs f k refl) in
       follows_then (part chart.place ∷ []) _ vs (r.place vs) _ (follows_place vs) (λ place xs p.
-          let two : span xs ≤ tokens = omega (arith, low IsPlace (λ ws y q. place_plain q) vs (r.place vs) place xs (sound_place vs) p) in
-          follows_expect sort.Comma _ xs _ (λ comma ys g l.
-              let three : span ys ≤ tokens = omega (arith, next_span xs comma ys g l refl) in
-              follows_then (part chart.expr ∷ []) _ ys (free.whole tokens braces ys) _ (follows_expr ys three) (λ wanted zs q.
-                  follows_expect sort.Comma _ zs _ (λ other rest m i.
-                      follows_then (part chart.expr ∷ []) (token sort.CloseParen ∷ []) rest (free.whole tokens braces rest) _ (follows_expr rest (omega (arith, next_span zs other rest m i refl, low_expr ys wanted zs q)))
-                          (λ given left j. follows_expect sort.CloseParen [] left _ (λ closing end a b. stays end))))))))
+      let two : span xs ≤ tokens = omega (arith, low IsPlace (λ ws y q. place_plain q) vs (r.place vs) place xs (sound_place vs) p) in
+      follows_expect sort.Comma _ xs _ (λ comma ys g l.
+      let three : span ys ≤ tokens = omega (arith, next_span xs comma ys g l refl) in
+      follows_then (part chart.expr ∷ []) _ ys (free.whole tokens braces ys) _ (follows_expr ys three) (λ wanted zs q.
+      follows_expect sort.Comma _ zs _ (λ other rest m i.
+      follows_then (part chart.expr ∷ []) (token sort.CloseParen ∷ []) rest (free.whole tokens braces rest) _ (follows_expr rest (omega (arith, next_span zs other rest m i refl, low_expr ys wanted zs q)))
+      (λ given left j. follows_expect sort.CloseParen [] left _ (λ closing end a b. stays end))))))))
 
   value_at : (s : Sort) (ts : List Terminal) → next_sort ts ≡ s → span ts ≤ tokens → Follows (part chart.value ∷ []) ts (free.value_by tokens braces s ts)
   unfolding same_sort
@@ -125,8 +125,8 @@ module _ (tokens braces : ℕ) where
   unfolding free.assigned
   follows_assigned ts w = follows_part chart.assigned (token sort.Assign ∷ part chart.value ∷ token sort.Semicolon ∷ []) ts (free.assigned tokens braces ts) refl
       (follows_expect sort.Assign _ ts _ (λ assign us e h.
-          follows_then (part chart.value ∷ []) (token sort.Semicolon ∷ []) us (free.value_here tokens braces us) _ (follows_value us (omega (arith, next_span ts assign us e h refl)))
-              (λ v vs f. follows_expect sort.Semicolon [] vs _ (λ semicolon ws g k. stays ws))))
+      follows_then (part chart.value ∷ []) (token sort.Semicolon ∷ []) us (free.value_here tokens braces us) _ (follows_value us (omega (arith, next_span ts assign us e h refl)))
+      (λ v vs f. follows_expect sort.Semicolon [] vs _ (λ semicolon ws g k. stays ws))))
 
   -- ---- statements without blocks
 
@@ -137,8 +137,8 @@ module _ (tokens braces : ℕ) where
   unfolding free.var_stmt
   follows_var ts w = follows_expect sort.Var _ ts _ (λ word us e h. follows_expect sort.Name _ us _ (λ name vs f k.
       follows_then (token sort.Colon ∷ part chart.type ∷ []) (part chart.assigned ∷ []) vs (r.typed vs) _ (follows_typed vs) (λ kind xs p.
-          follows_map (part chart.assigned ∷ []) xs (free.assigned tokens braces xs) _ (follows_assigned xs
-              (omega (arith, next_span ts word us e h refl, next_span us name vs f k refl, low (AfterSign tokens braces sort.Colon IsType) typed_plain vs (r.typed vs) kind xs (sound_typed tokens braces vs) p))))))
+      follows_map (part chart.assigned ∷ []) xs (free.assigned tokens braces xs) _ (follows_assigned xs
+      (omega (arith, next_span ts word us e h refl, next_span us name vs f k refl, low (AfterSign tokens braces sort.Colon IsType) typed_plain vs (r.typed vs) kind xs (sound_typed tokens braces vs) p))))))
 
   follows_put : (place : Expr) (ts : List Terminal) → span ts ≤ tokens → Follows (part chart.assigned ∷ []) ts (free.put_after tokens braces place ts)
   unfolding free.put_after
@@ -149,8 +149,8 @@ module _ (tokens braces : ℕ) where
   unfolding free.call_after
   follows_call name ts w = follows_expect sort.OpenParen _ ts _ (λ opening us e h.
       follows_then (part chart.args ∷ token sort.CloseParen ∷ []) (token sort.Semicolon ∷ []) us (enclosed (listed (free.whole tokens braces)) us) _
-          (follows_args (λ l. span l ≤ tokens) (free.whole tokens braces) follows_expr (sound_expr tokens braces) (plain_onward tokens) us (omega (arith, next_span ts opening us e h refl)))
-          (λ found vs f. follows_expect sort.Semicolon [] vs _ (λ semicolon xs g k. stays xs)))
+      (follows_args (λ l. span l ≤ tokens) (free.whole tokens braces) follows_expr (sound_expr tokens braces) (plain_onward tokens) us (omega (arith, next_span ts opening us e h refl)))
+      (λ found vs f. follows_expect sort.Semicolon [] vs _ (λ semicolon xs g k. stays xs)))
 
   plain_tail : (t : Terminal) (ts us : List Terminal) → Plain us → us ≡ t ∷ ts → Plain ts
   plain_tail t ts us plain_end e = absurd cc
@@ -164,9 +164,9 @@ module _ (tokens braces : ℕ) where
       follows_part chart.after_name (token sort.OpenParen ∷ part chart.args ∷ token sort.CloseParen ∷ token sort.Semicolon ∷ []) ts (free.call_after tokens braces name ts) (ap (chosen chart.after_name) e) (follows_call name ts w)
   after_name_at name n sort.Dot ts e w =
       follows_part chart.after_name (token sort.Dot ∷ token sort.Name ∷ part chart.field_tail ∷ part chart.assigned ∷ []) ts (free.after_name tokens braces name sort.Dot ts) (ap (chosen chart.after_name) e)
-          (follows_then (token sort.Dot ∷ token sort.Name ∷ part chart.field_tail ∷ []) (part chart.assigned ∷ []) ts (r.place_after name ts) (free.put_after tokens braces) (follows_place_after name ts)
-              (λ place us f. follows_put place us
-                  (omega (arith, low (After (name ∷ []) IsPlace) (λ ws y p. plain_tail name ws (name ∷ ws) (place_plain p) refl) ts (r.place_after name ts) place us (sound_place_after name ts n) f))))
+      (follows_then (token sort.Dot ∷ token sort.Name ∷ part chart.field_tail ∷ []) (part chart.assigned ∷ []) ts (r.place_after name ts) (free.put_after tokens braces) (follows_place_after name ts)
+      (λ place us f. follows_put place us
+      (omega (arith, low (After (name ∷ []) IsPlace) (λ ws y p. plain_tail name ws (name ∷ ws) (place_plain p) refl) ts (r.place_after name ts) place us (sound_place_after name ts n) f))))
   after_name_at name n s ts e w = follows_none chart.after_name ts (ap (chosen chart.after_name) e)
 
   follows_named : (ts : List Terminal) → span ts ≤ tokens → Follows (token sort.Name ∷ part chart.after_name ∷ []) ts (free.named_stmt tokens braces ts)
@@ -182,13 +182,13 @@ module _ (tokens braces : ℕ) where
   unfolding free.check_stmt
   follows_check ts w = follows_expect sort.Check _ ts _ (λ word us e h.
       follows_then (part chart.expr ∷ []) (token sort.Semicolon ∷ []) us (free.whole tokens braces us) _ (follows_expr us (omega (arith, next_span ts word us e h refl)))
-          (λ body vs f. follows_expect sort.Semicolon [] vs _ (λ semicolon xs g k. stays xs)))
+      (λ body vs f. follows_expect sort.Semicolon [] vs _ (λ semicolon xs g k. stays xs)))
 
   follows_condition : (ts : List Terminal) → span ts ≤ tokens → Follows (token sort.OpenParen ∷ part chart.expr ∷ token sort.CloseParen ∷ []) ts (free.condition tokens braces ts)
   unfolding free.condition
   follows_condition ts w = follows_expect sort.OpenParen _ ts _ (λ opening us e h.
       follows_then (part chart.expr ∷ []) (token sort.CloseParen ∷ []) us (free.whole tokens braces us) _ (follows_expr us (omega (arith, next_span ts opening us e h refl)))
-          (λ test vs f. follows_expect sort.CloseParen [] vs _ (λ closing xs g k. stays xs)))
+      (λ test vs f. follows_expect sort.CloseParen [] vs _ (λ closing xs g k. stays xs)))
 
   -- ---- statements with blocks
 
@@ -212,10 +212,10 @@ module _ (tokens braces : ℕ) where
     follows_if ts w = follows_expect sort.If _ ts _ (λ word us e h.
         let one : Within tokens braces n us = within_sign tokens braces n ts us e h refl w in
         follows_then (token sort.OpenParen ∷ part chart.expr ∷ token sort.CloseParen ∷ []) _ us (free.condition tokens braces us) _ (follows_condition us (within_span one)) (λ test vs f.
-            let two : Within tokens braces n vs = within_left tokens braces n (InParens tokens braces) condition_even us (free.condition tokens braces us) test vs (sound_condition tokens braces us) f one in
-            follows_then (part chart.block ∷ []) (part chart.else_tail ∷ []) vs (free.blocks tokens braces d vs) _ (blocks vs two) (λ body xs g.
-                let three : Within tokens braces n xs = within_left tokens braces n IsBlock (λ ws y p. block_even p) vs (free.blocks tokens braces d vs) body xs (sound_blocks tokens braces d vs) g two in
-                follows_map (part chart.else_tail ∷ []) xs (free.else_part tokens braces (free.blocks tokens braces d) xs) _ (follows_else xs three))))
+        let two : Within tokens braces n vs = within_left tokens braces n (InParens tokens braces) condition_even us (free.condition tokens braces us) test vs (sound_condition tokens braces us) f one in
+        follows_then (part chart.block ∷ []) (part chart.else_tail ∷ []) vs (free.blocks tokens braces d vs) _ (blocks vs two) (λ body xs g.
+        let three : Within tokens braces n xs = within_left tokens braces n IsBlock (λ ws y p. block_even p) vs (free.blocks tokens braces d vs) body xs (sound_blocks tokens braces d vs) g two in
+        follows_map (part chart.else_tail ∷ []) xs (free.else_part tokens braces (free.blocks tokens braces d) xs) _ (follows_else xs three))))
 
     follows_while : (ts : List Terminal) → Within tokens braces n ts
         → Follows (token sort.While ∷ token sort.OpenParen ∷ part chart.expr ∷ token sort.CloseParen ∷ part chart.block ∷ []) ts (free.while_stmt tokens braces (free.blocks tokens braces d) ts)
@@ -223,8 +223,8 @@ module _ (tokens braces : ℕ) where
     follows_while ts w = follows_expect sort.While _ ts _ (λ word us e h.
         let one : Within tokens braces n us = within_sign tokens braces n ts us e h refl w in
         follows_then (token sort.OpenParen ∷ part chart.expr ∷ token sort.CloseParen ∷ []) _ us (free.condition tokens braces us) _ (follows_condition us (within_span one)) (λ test vs f.
-            let two : Within tokens braces n vs = within_left tokens braces n (InParens tokens braces) condition_even us (free.condition tokens braces us) test vs (sound_condition tokens braces us) f one in
-            follows_map (part chart.block ∷ []) vs (free.blocks tokens braces d vs) _ (blocks vs two)))
+        let two : Within tokens braces n vs = within_left tokens braces n (InParens tokens braces) condition_even us (free.condition tokens braces us) test vs (sound_condition tokens braces us) f one in
+        follows_map (part chart.block ∷ []) vs (free.blocks tokens braces d vs) _ (blocks vs two)))
 
     stmt_at : (s : Sort) (ts : List Terminal) → next_sort ts ≡ s → Within tokens braces n ts → Follows (part chart.stmt ∷ []) ts (free.stmt_by tokens braces (free.blocks tokens braces d) s ts)
     unfolding same_sort
@@ -261,14 +261,14 @@ module _ (tokens braces : ℕ) where
     stmts_sound : (xs : List Stmt) (t : Terminal) (ts : List Terminal) → Sound (λ ws y. Used Even ws) (t ∷ ts) (one_more (free.statement tokens braces (free.blocks tokens braces d)) xs (t ∷ ts))
     stmts_sound xs t ts =
         sound_map IsStmt (λ ws y. Used Even ws) (t ∷ ts) (free.statement tokens braces (free.blocks tokens braces d) (t ∷ ts)) (λ x. xs ++ x ∷ []) (sound_stmt tokens braces (free.blocks tokens braces d) (sound_blocks tokens braces d) (t ∷ ts))
-            (λ ws x p. let b = stmt_begins p in record { first = b.first; others = b.others; split = b.split; holds = stmt_even p })
+        (λ ws x p. let b = stmt_begins p in record { first = b.first; others = b.others; split = b.split; holds = stmt_even p })
 
     follows_stmts : (ts : List Terminal) → Within tokens braces n ts → Follows (part chart.stmts ∷ []) ts (many r.in_block (free.statement tokens braces (free.blocks tokens braces d)) ts)
     unfolding many
     follows_stmts ts w =
         follows_turns r.in_block (one_more (free.statement tokens braces (free.blocks tokens braces d))) chart.stmts (λ s. part chart.stmt ∷ []) (Within tokens braces n) Even stmts_go stmts_end stmts_nothing
-            (λ xs t us v e. follows_map (part chart.stmt ∷ []) (t ∷ us) (free.statement tokens braces (free.blocks tokens braces d) (t ∷ us)) (λ x. xs ++ x ∷ []) (follows_stmt (t ∷ us) v))
-            stmts_sound (λ ws us e v. within_even us e v) [] ts w
+        (λ xs t us v e. follows_map (part chart.stmt ∷ []) (t ∷ us) (free.statement tokens braces (free.blocks tokens braces d) (t ∷ us)) (λ x. xs ++ x ∷ []) (follows_stmt (t ∷ us) v))
+        stmts_sound (λ ws us e v. within_even us e v) [] ts w
 
   follows_block : (d n : ℕ) (ts : List Terminal) → Room tokens braces n (suc d) → Within tokens braces n ts
       → ((us : List Terminal) → Within tokens braces (suc n) us → Follows (part chart.stmts ∷ []) us (many r.in_block (free.statement tokens braces (free.blocks tokens braces d)) us))
@@ -276,9 +276,9 @@ module _ (tokens braces : ℕ) where
   unfolding free.block_of
   follows_block d n ts room w stmts = follows_part chart.block (token sort.OpenBrace ∷ part chart.stmts ∷ token sort.CloseBrace ∷ []) ts (free.block_of tokens braces (free.blocks tokens braces d) ts) refl
       (follows_expect sort.OpenBrace _ ts _ (λ opening us e h.
-          let inside : Within tokens braces (suc n) us = subst (λ (s : Sort). Within tokens braces (step n s) us) h.same (within_next (subst (Within tokens braces n) e w)).1 in
-          follows_then (part chart.stmts ∷ []) (token sort.CloseBrace ∷ []) us (many r.in_block (free.statement tokens braces (free.blocks tokens braces d)) us) _ (stmts us inside)
-              (λ body vs f. follows_expect sort.CloseBrace [] vs _ (λ closing xs g k. stays xs))))
+      let inside : Within tokens braces (suc n) us = subst (λ (s : Sort). Within tokens braces (step n s) us) h.same (within_next (subst (Within tokens braces n) e w)).1 in
+      follows_then (part chart.stmts ∷ []) (token sort.CloseBrace ∷ []) us (many r.in_block (free.statement tokens braces (free.blocks tokens braces d)) us) _ (stmts us inside)
+      (λ body vs f. follows_expect sort.CloseBrace [] vs _ (λ closing xs g k. stays xs))))
 
   -- where no more braces may be open there is no `{`
   brace_stops : (n : ℕ) (ds : Symbols) (t : Terminal) (ts : List Terminal) (b : Bool) → same_sort t.sort sort.OpenBrace ≡ b → Room tokens braces n zero → Within tokens braces n (t ∷ ts)

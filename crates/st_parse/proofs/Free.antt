@@ -34,7 +34,6 @@ use Rattle.st_parse.specs.Reading.{link, linked, term, sum, cmp_after, cmp, and,
 use Rattle.st_parse.specs.Reading.{choice, nested, type_by, type_name, typed, new_value, in_block, field, fields, class}
 use Rattle.st_parse.specs.Reading.{shared_block, param, params, finish}
 
-
 module _ (tokens braces : ℕ) where
   -- an expression that nests no deeper than the limit on tokens allows
   unfoldable pub whole : Reader Expr

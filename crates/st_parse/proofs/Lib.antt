@@ -27,3 +27,7 @@ pub mod TierLemmas
 pub mod TurnLemmas
 pub mod Turns
 pub mod WordLemmas
+pub mod ItemLemmas
+pub mod EndLemmas
+pub mod WithinLemmas
+pub mod OutcomeLemmas

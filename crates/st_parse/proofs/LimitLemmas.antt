@@ -83,7 +83,7 @@ value_plain (g.of_expr h) = (expr_words h).plain
 value_plain (g.new w n) = plain_more (is_plain refl w) (plain_more (is_plain refl n) plain_end)
 value_plain (g.cas w o p c h d k e) =
     plain_append (plain_append (plain_append (plain_more (is_plain refl w) (plain_more (is_plain refl o) (place_plain p))) (plain_more (is_plain refl c) (expr_words h).plain)) (plain_more (is_plain refl d) (expr_words k).plain))
-        (plain_more (is_plain refl e) plain_end)
+    (plain_more (is_plain refl e) plain_end)
 
 -- ---- statements
 

@@ -111,11 +111,11 @@ module _ {A : Type 0} (asks : Sort → Bool) (turn : A → Reader A) (tail : Par
   follows_turns_from zero x (t ∷ ts) few w = absurd (omega arith)
   follows_turns_from (suc n) x (t ∷ ts) few w =
       asked x t ts (asks t.sort) (and_then (turn x (t ∷ ts)) (λ y. if_shorter (t ∷ ts) (turns_from asks turn n y))) refl
-          (λ e. follows_part tail (symbols t.sort ++ part tail ∷ []) (t ∷ ts) (and_then (turn x (t ∷ ts)) (λ y. if_shorter (t ∷ ts) (turns_from asks turn n y))) (goes_on t.sort e)
-              (follows_then (symbols t.sort) (part tail ∷ []) (t ∷ ts) (turn x (t ∷ ts)) (λ y. if_shorter (t ∷ ts) (turns_from asks turn n y)) (one x t ts w e)
-                  (λ y us h. let less = left t ts (turn x (t ∷ ts)) y us h (sound x t ts) w in
-                      subst (λ (b : Bool). Follows (part tail ∷ []) us (if b then turns_from asks turn n y us else Err us)) (sym (lt-ltb (length us) (length (t ∷ ts)) less.0))
-                          (follows_turns_from n y us (omega (arith, less.0)) less.1))))
+      (λ e. follows_part tail (symbols t.sort ++ part tail ∷ []) (t ∷ ts) (and_then (turn x (t ∷ ts)) (λ y. if_shorter (t ∷ ts) (turns_from asks turn n y))) (goes_on t.sort e)
+      (follows_then (symbols t.sort) (part tail ∷ []) (t ∷ ts) (turn x (t ∷ ts)) (λ y. if_shorter (t ∷ ts) (turns_from asks turn n y)) (one x t ts w e)
+      (λ y us h. let less = left t ts (turn x (t ∷ ts)) y us h (sound x t ts) w in
+      subst (λ (b : Bool). Follows (part tail ∷ []) us (if b then turns_from asks turn n y us else Err us)) (sym (lt-ltb (length us) (length (t ∷ ts)) less.0))
+      (follows_turns_from n y us (omega (arith, less.0)) less.1))))
 
   pub follows_turns : (x : A) (ts : List Terminal) → W ts → Follows (part tail ∷ []) ts (turns asks turn x ts)
   unfolding turns

@@ -56,4 +56,3 @@ sort_self sort.Both = refl
 sort_self sort.Either = refl
 sort_self sort.Question = refl
 sort_self sort.Other = refl
-

@@ -80,8 +80,8 @@ module _ (inner : Level → Reader Expr) (whole_reads : (ts : List Terminal) →
   unfolding r.args
   sound_args R close ts =
       sound_enclosed (listed (inner level.Whole)) AreExprs AreArgs
-          (sound_listed (inner level.Whole) IsExpr whole_reads AreExprs (λ us x p. g.last_expr p) (λ us vs comma xs x h c p. exprs_more comma vs x c p h))
-          g.no_args (λ us xs h. g.some_args h) R close ts
+      (sound_listed (inner level.Whole) IsExpr whole_reads AreExprs (λ us x p. g.last_expr p) (λ us vs comma xs x h c p. exprs_more comma vs x c p h))
+      g.no_args (λ us xs h. g.some_args h) R close ts
 
   call_or_name : (name : Terminal) (us : List Terminal) (b : Bool) → Is sort.Name name
       → Sound (After (name ∷ []) IsPrimary) us ((if b then (expect sort.OpenParen >> (λ found. expr.Call name.bytes found name.site) <$> r.args inner) else pure (expr.Local name.bytes name.site)) us)
@@ -89,8 +89,8 @@ module _ (inner : Level → Reader Expr) (whole_reads : (ts : List Terminal) →
   call_or_name name us true n =
       let P : List Terminal → List Expr → Type 0 = λ ws xs. IsPrimary (name ∷ ws) (expr.Call name.bytes xs name.site) in
       sound_expect sort.OpenParen (After (name ∷ []) IsPrimary) us (λ _. (λ found. expr.Call name.bytes found name.site) <$> r.args inner)
-          (λ opening vs o. sound_map (After (opening ∷ []) P) (After (opening ∷ []) (After (name ∷ []) IsPrimary)) vs (r.args inner vs) (λ found. expr.Call name.bytes found name.site)
-              (sound_args (After (opening ∷ []) P) (λ ws closing xs a c. g.call n o a c) vs) (λ front xs p. p))
+      (λ opening vs o. sound_map (After (opening ∷ []) P) (After (opening ∷ []) (After (name ∷ []) IsPrimary)) vs (r.args inner vs) (λ found. expr.Call name.bytes found name.site)
+      (sound_args (After (opening ∷ []) P) (λ ws closing xs a c. g.call n o a c) vs) (λ front xs p. p))
 
   sound_named : (ts : List Terminal) → Sound IsPrimary ts (r.named inner ts)
   unfolding r.named
@@ -100,7 +100,7 @@ module _ (inner : Level → Reader Expr) (whole_reads : (ts : List Terminal) →
   unfolding r.paren
   sound_paren ts = sound_expect sort.OpenParen IsPrimary ts _ (λ opening us o.
       sound_then IsExpr (After (opening ∷ []) IsPrimary) us (inner level.Whole us) _ (whole_reads us)
-          (λ front vs e p. sound_expect sort.CloseParen _ vs _ (λ closing ws c. sound_pure _ ws _ (g.paren o p c))))
+      (λ front vs e p. sound_expect sort.CloseParen _ vs _ (λ closing ws c. sound_pure _ ws _ (g.paren o p c))))
 
   primary_at : (s : Sort) (ts : List Terminal) → Sound IsPrimary ts (r.primary_by inner s ts)
   primary_at sort.Name ts = sound_named ts
@@ -112,13 +112,13 @@ module _ (inner : Level → Reader Expr) (whole_reads : (ts : List Terminal) →
   unfolding r.postfix r.primary
   sound_postfix ts =
       sound_then IsPrimary IsPostfix ts (r.primary_by inner (next_sort ts) ts) r.fields_after (primary_at (next_sort ts) ts)
-          (λ front us object p. sound_fields IsPostfix (λ before dot name x q d n. g.field_of q d n) front us object (g.primary p))
+      (λ front us object p. sound_fields IsPostfix (λ before dot name x q d n. g.field_of q d n) front us object (g.primary p))
 
   prefixed : (s : Sort) (ts : List Terminal) (f : Expr → Terminal → Expr) → next_sort ts ≡ s → ((t : Terminal) (us : List Terminal) (e : Expr) → Is s t → IsUnary us e → IsUnary (t ∷ us) (f e t))
       → Sound IsUnary ts ((take_any >>= (λ mark. (λ e. f e mark) <$> inner level.Prefixed)) ts)
   prefixed s ts f e h =
       sound_take IsUnary ts _ (λ t us split. sound_map IsUnary (After (t ∷ []) IsUnary) us (inner level.Prefixed us) (λ x. f x t) (prefixed_reads us)
-          (λ front x p. h t front x (record { same = ap next_sort (sym split) ∙ e }) p))
+      (λ front x p. h t front x (record { same = ap next_sort (sym split) ∙ e }) p))
 
   unary_at : (s : Sort) (ts : List Terminal) → next_sort ts ≡ s → Sound IsUnary ts (r.unary_by inner s ts)
   unary_at sort.Not ts e = prefixed sort.Not ts (λ x t. expr.Not x t.site) e (λ t us x n p. g.not_of n p)
@@ -136,7 +136,7 @@ module _ (inner : Level → Reader Expr) (whole_reads : (ts : List Terminal) →
   sound_binary P R operand reads front ts left None h = tt
   sound_binary P R operand reads front ts left (Some op) h =
       sound_take (After front R) ts _ (λ t us split. sound_map P (After (t ∷ []) (After front R)) us (operand us) (λ right. expr.Binary op left right t.site) (reads us)
-          (λ words right p. h t words op right (ap next_sort split) refl p))
+      (λ words right p. h t words op right (ap next_sort split) refl p))
 
   sound_linked : (c : Chain) (P R : List Terminal → Expr → Type 0) (operand : Reader Expr) → ((ts : List Terminal) → Sound P ts (operand ts))
       → ((ts : List Terminal) (e : Expr) → P ts e → R ts e)
@@ -145,10 +145,10 @@ module _ (inner : Level → Reader Expr) (whole_reads : (ts : List Terminal) →
   unfolding r.linked r.link
   sound_linked c P R operand reads first on ts =
       sound_then P R ts (operand ts) (turns (λ s. is_some (chained c s)) (r.link inner c operand)) (reads ts)
-          (λ front us x p. sound_turns (λ s. is_some (chained c s)) (r.link inner c operand) R
-              (λ before vs left h. sound_binary P R operand reads before vs left (chained c (next_sort vs))
-                  (λ t ws op right same is_op q. on before ws t op left right h (record { same = ap (chained c) (sym same) ∙ is_op }) q))
-              front us x (first front x p))
+      (λ front us x p. sound_turns (λ s. is_some (chained c s)) (r.link inner c operand) R
+      (λ before vs left h. sound_binary P R operand reads before vs left (chained c (next_sort vs))
+      (λ t ws op right same is_op q. on before ws t op left right h (record { same = ap (chained c) (sym same) ∙ is_op }) q))
+      front us x (first front x p))
 
   pub sound_term : (ts : List Terminal) → Sound IsTerm ts (r.term inner ts)
   unfolding r.term
@@ -162,7 +162,7 @@ module _ (inner : Level → Reader Expr) (whole_reads : (ts : List Terminal) →
   compare front ts left None e p = record { front = []; split = refl; spells = subst (λ (l : List Terminal). IsCmp l left) (sym (append-nil front)) (g.cmp_only p) }
   compare front ts left (Some op) e p =
       sound_binary IsSum IsCmp (r.sum inner) sound_sum front ts left (Some op)
-          (λ t us op' right same is_op q. g.cmp_both p (record { same = ap compared (sym same) ∙ e ∙ is_op }) q)
+      (λ t us op' right same is_op q. g.cmp_both p (record { same = ap compared (sym same) ∙ e ∙ is_op }) q)
 
   pub sound_cmp : (ts : List Terminal) → Sound IsCmp ts (r.cmp inner ts)
   unfolding r.cmp
@@ -181,8 +181,8 @@ module _ (inner : Level → Reader Expr) (whole_reads : (ts : List Terminal) →
   sound_branches front ts test false p = record { front = []; split = refl; spells = subst (λ (l : List Terminal). IsExpr l test) (sym (append-nil front)) (g.only p) }
   sound_branches front ts test true p =
       sound_expect sort.Question (After front IsExpr) ts _ (λ question us q. sound_then IsExpr _ us (inner level.Whole us) _ (whole_reads us)
-          (λ words vs left l. sound_expect sort.Colon _ vs _ (λ colon ws c. sound_map IsExpr _ ws (inner level.Whole ws) _ (whole_reads ws)
-              (λ others right h. subst (λ (l : List Terminal). IsExpr l (expr.Cond test left right question.site)) (append_assoc front (question ∷ words) (colon ∷ others)) (g.cond p q l c h)))))
+      (λ words vs left l. sound_expect sort.Colon _ vs _ (λ colon ws c. sound_map IsExpr _ ws (inner level.Whole ws) _ (whole_reads ws)
+      (λ others right h. subst (λ (l : List Terminal). IsExpr l (expr.Cond test left right question.site)) (append_assoc front (question ∷ words) (colon ∷ others)) (g.cond p q l c h)))))
 
   pub sound_choice : (ts : List Terminal) → Sound IsExpr ts (r.choice inner ts)
   unfolding r.choice
@@ -192,6 +192,7 @@ module _ (inner : Level → Reader Expr) (whole_reads : (ts : List Terminal) →
 
 mutual
   unfolding r.nested
+
   pub sound_whole : (depth : ℕ) (ts : List Terminal) → Sound IsExpr ts (r.nested depth level.Whole ts)
   sound_whole zero ts = tt
   sound_whole (suc depth) ts = sound_choice (r.nested depth) (sound_whole depth) (sound_prefixed depth) ts

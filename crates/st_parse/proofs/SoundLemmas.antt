@@ -83,10 +83,10 @@ module _ {A : Type 0} (asks : Sort → Bool) (turn : A → Reader A) (P : List T
   sound_turns_from zero front (t ∷ ts) x p = tt
   sound_turns_from (suc n) front (t ∷ ts) x p =
       if_asked front (t ∷ ts) x (and_then (turn x (t ∷ ts)) (λ y. if_shorter (t ∷ ts) (turns_from asks turn n y))) (asks t.sort) p
-          (sound_then (After front P) (After front P) (t ∷ ts) (turn x (t ∷ ts)) (λ y. if_shorter (t ∷ ts) (turns_from asks turn n y)) (one front (t ∷ ts) x p)
-              (λ more us y q. if_fewer (After more (After front P)) us (turns_from asks turn n y) (nat_lt (length us) (length (t ∷ ts)))
-                  (sound_weaken (After (front ++ more) P) (After more (After front P)) us (turns_from asks turn n y us) (sound_turns_from n (front ++ more) us y q)
-                      (λ later z r. subst (λ (l : List Terminal). P l z) (append_assoc front more later) r))))
+      (sound_then (After front P) (After front P) (t ∷ ts) (turn x (t ∷ ts)) (λ y. if_shorter (t ∷ ts) (turns_from asks turn n y)) (one front (t ∷ ts) x p)
+      (λ more us y q. if_fewer (After more (After front P)) us (turns_from asks turn n y) (nat_lt (length us) (length (t ∷ ts)))
+      (sound_weaken (After (front ++ more) P) (After more (After front P)) us (turns_from asks turn n y us) (sound_turns_from n (front ++ more) us y q)
+      (λ later z r. subst (λ (l : List Terminal). P l z) (append_assoc front more later) r))))
 
   pub sound_turns : (front us : List Terminal) (x : A) → P front x → Sound (After front P) us (turns asks turn x us)
   unfolding turns

@@ -51,10 +51,10 @@ module _ {A : Type 0} (item : Reader A) (P : List Terminal → A → Type 0) (re
   unfolding listed
   sound_listed first on ts =
       sound_then P L ts (item ts) (λ x. turns (is_sort sort.Comma) (one_more (expect sort.Comma >> item)) (x ∷ [])) (reads ts)
-          (λ front us x p. sound_turns (is_sort sort.Comma) (one_more (expect sort.Comma >> item)) L (λ before vs xs h. sound_map AfterComma (After before L) vs (and_then (expect sort.Comma vs) (λ c. item)) (λ y. xs ++ y ∷ [])
-              (sound_expect sort.Comma AfterComma vs (λ c. item) (λ c ws is_comma. sound_weaken P (After (c ∷ []) AfterComma) ws (item ws) (reads ws)
-                  (λ words y q. record { comma = c; words = words; split = refl; is_comma = is_comma; is_item = q })))
-              (λ words y q. subst (λ (l : List Terminal). L (before ++ l) (xs ++ y ∷ [])) q.split (on before q.words q.comma xs y h q.is_comma q.is_item))) front us (x ∷ []) (first front x p))
+      (λ front us x p. sound_turns (is_sort sort.Comma) (one_more (expect sort.Comma >> item)) L (λ before vs xs h. sound_map AfterComma (After before L) vs (and_then (expect sort.Comma vs) (λ c. item)) (λ y. xs ++ y ∷ [])
+      (sound_expect sort.Comma AfterComma vs (λ c. item) (λ c ws is_comma. sound_weaken P (After (c ∷ []) AfterComma) ws (item ws) (reads ws)
+      (λ words y q. record { comma = c; words = words; split = refl; is_comma = is_comma; is_item = q })))
+      (λ words y q. subst (λ (l : List Terminal). L (before ++ l) (xs ++ y ∷ [])) q.split (on before q.words q.comma xs y h q.is_comma q.is_item))) front us (x ∷ []) (first front x p))
 
 -- [ list ] ")"
 module _ {A : Type 0} (list : Reader (List A)) (L M : List Terminal → List A → Type 0) (reads : (ts : List Terminal) → Sound L ts (list ts))
@@ -68,4 +68,4 @@ module _ {A : Type 0} (list : Reader (List A)) (L M : List Terminal → List A �
   unfolding enclosed
   sound_enclosed R close ts =
       sound_then M R ts ((if sees sort.CloseParen ts then pure [] else list) ts) _ (maybe ts (sees sort.CloseParen ts))
-          (λ front us xs m. sound_expect sort.CloseParen (After front R) us _ (λ closing vs is_closing. sound_pure _ vs xs (close front closing xs m is_closing)))
+      (λ front us xs m. sound_expect sort.CloseParen (After front R) us _ (λ closing vs is_closing. sound_pure _ vs xs (close front closing xs m is_closing)))

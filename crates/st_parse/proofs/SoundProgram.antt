@@ -26,7 +26,7 @@ module _ (tokens braces : ℕ) where
   unfolding r.field
   sound_field ts = sound_expect sort.Name IsField ts _ (λ name us n. sound_then (AfterSign tokens braces sort.Colon IsType) (After (name ∷ []) IsField) us (r.typed us) _ (sound_typed tokens braces us) (λ front vs kind t.
       sound_expect sort.Semicolon (λ l x. IsField (name ∷ (front ++ l)) x) vs _ (λ semicolon ws s.
-          sound_pure _ ws _ (subst (λ (l : List Terminal). IsField (name ∷ (l ++ semicolon ∷ [])) (record { name = name.bytes; kind = kind; site = name.site })) t.split (g.field n t.is_sign t.spelled s)))))
+      sound_pure _ ws _ (subst (λ (l : List Terminal). IsField (name ∷ (l ++ semicolon ∷ [])) (record { name = name.bytes; kind = kind; site = name.site })) t.split (g.field n t.is_sign t.spelled s)))))
 
   -- "{" { field } "}"
   pub record InBraces (ts : List Terminal) (fields : List Field) : Type 0 where
@@ -42,15 +42,15 @@ module _ (tokens braces : ℕ) where
   unfolding r.fields
   sound_fields ts = sound_expect sort.OpenBrace InBraces ts _ (λ opening us o.
       sound_then (AreMany IsField) (After (opening ∷ []) InBraces) us (many (is_sort sort.Name) r.field us) _
-          (sound_many r.field IsField sound_field (AreMany IsField) (is_sort sort.Name) g.none (λ before words xs x h p. many_more IsField words x p h) us)
-          (λ front vs fields p. sound_expect sort.CloseBrace (λ l x. InBraces (opening ∷ (front ++ l)) x) vs _ (λ closing ws c.
-              sound_pure _ ws fields (record { opening = opening; words = front; closing = closing; split = refl; is_opening = o; are_fields = p; is_closing = c }))))
+      (sound_many r.field IsField sound_field (AreMany IsField) (is_sort sort.Name) g.none (λ before words xs x h p. many_more IsField words x p h) us)
+      (λ front vs fields p. sound_expect sort.CloseBrace (λ l x. InBraces (opening ∷ (front ++ l)) x) vs _ (λ closing ws c.
+      sound_pure _ ws fields (record { opening = opening; words = front; closing = closing; split = refl; is_opening = o; are_fields = p; is_closing = c }))))
 
   pub sound_class : (ts : List Terminal) → Sound IsClass ts (r.class ts)
   unfolding r.class
   sound_class ts = sound_expect sort.Class IsClass ts _ (λ word us w. sound_expect sort.Name (After (word ∷ []) IsClass) us _ (λ name vs n.
       sound_map InBraces (After (word ∷ name ∷ []) IsClass) vs (r.fields vs) (λ fields. record { name = name.bytes; fields = fields; site = name.site }) (sound_fields vs) (λ front fields p.
-          subst (λ (l : List Terminal). IsClass (word ∷ name ∷ l) (record { name = name.bytes; fields = fields; site = name.site })) p.split (g.class w n p.is_opening p.are_fields p.is_closing))))
+      subst (λ (l : List Terminal). IsClass (word ∷ name ∷ l) (record { name = name.bytes; fields = fields; site = name.site })) p.split (g.class w n p.is_opening p.are_fields p.is_closing))))
 
   shared_at : (ts : List Terminal) (b : Bool) → Sound IsShared ts ((if b then (expect sort.Shared >> r.fields) else pure []) ts)
   shared_at ts true = sound_expect sort.Shared IsShared ts (λ _. r.fields) (λ word us w. sound_weaken InBraces (After (word ∷ []) IsShared) us (r.fields us) (sound_fields us) (λ front fields p.
@@ -80,9 +80,9 @@ module _ (tokens braces : ℕ) where
   unfolding r.params
   sound_params ts = sound_expect sort.OpenParen InParens ts (λ _. enclosed (listed r.param)) (λ opening us o.
       sound_enclosed (listed r.param) (AreListed IsParam) AreParams
-          (sound_listed r.param IsParam sound_param (AreListed IsParam) (λ vs x p. g.last p) (λ vs ws comma xs x h c p. listed_more IsParam comma ws x c p h))
-          g.no_params (λ vs xs h. g.some_params h) (After (opening ∷ []) InParens)
-          (λ words closing xs a c. record { opening = opening; words = words; closing = closing; split = refl; is_opening = o; are_params = a; is_closing = c }) us)
+      (sound_listed r.param IsParam sound_param (AreListed IsParam) (λ vs x p. g.last p) (λ vs ws comma xs x h c p. listed_more IsParam comma ws x c p h))
+      g.no_params (λ vs xs h. g.some_params h) (After (opening ∷ []) InParens)
+      (λ words closing xs a c. record { opening = opening; words = words; closing = closing; split = refl; is_opening = o; are_params = a; is_closing = c }) us)
 
   pred_words : (word name opening : Terminal) (ts : List Terminal) (closing colon : Terminal) (us : List Terminal) (assign : Terminal) (vs : List Terminal) (semicolon : Terminal)
       → (word ∷ name ∷ opening ∷ ts ++ closing ∷ colon ∷ us ++ assign ∷ vs ++ semicolon ∷ []) ≡ word ∷ name ∷ ((opening ∷ (ts ++ closing ∷ [])) ++ ((colon ∷ us) ++ (assign ∷ (vs ++ semicolon ∷ []))))
@@ -92,15 +92,15 @@ module _ (tokens braces : ℕ) where
   unfolding free.pred
   sound_pred ts = sound_expect sort.Pred IsPred ts _ (λ word us w. sound_expect sort.Name (After (word ∷ []) IsPred) us _ (λ name vs n.
       sound_then InParens (After (word ∷ name ∷ []) IsPred) vs (r.params vs) _ (sound_params vs) (λ front ws params p.
-          sound_then (AfterSign tokens braces sort.Colon IsType) (λ l x. IsPred (word ∷ name ∷ (front ++ l)) x) ws (r.typed ws) _ (sound_typed tokens braces ws) (λ more xs kind t.
-              sound_expect sort.Assign (λ l x. IsPred (word ∷ name ∷ (front ++ (more ++ l))) x) xs _ (λ assign ys a.
-                  sound_then IsExpr (λ l x. IsPred (word ∷ name ∷ (front ++ (more ++ (assign ∷ l)))) x) ys ((free.whole tokens braces) ys) _ (sound_expr tokens braces ys) (λ body zs e q.
-                      sound_expect sort.Semicolon (λ l x. IsPred (word ∷ name ∷ (front ++ (more ++ (assign ∷ (body ++ l))))) x) zs _ (λ semicolon left s.
-                          sound_pure _ left _ (subst (λ (l : List Terminal). IsPred (word ∷ name ∷ (l ++ (more ++ (assign ∷ (body ++ semicolon ∷ []))))) (record { name = name.bytes; params = params; result = kind; body = e; site = name.site })) p.split
-                              (subst (λ (l : List Terminal). IsPred (word ∷ name ∷ ((p.opening ∷ (p.words ++ p.closing ∷ [])) ++ (l ++ (assign ∷ (body ++ semicolon ∷ []))))) (record { name = name.bytes; params = params; result = kind; body = e; site = name.site })) t.split
-                                  (subst (λ (l : List Terminal). IsPred l (record { name = name.bytes; params = params; result = kind; body = e; site = name.site }))
-                                      (pred_words word name p.opening p.words p.closing t.sign t.words assign body semicolon)
-                                      (g.pred w n p.is_opening p.are_params p.is_closing t.is_sign t.spelled a q s)))))))))))
+      sound_then (AfterSign tokens braces sort.Colon IsType) (λ l x. IsPred (word ∷ name ∷ (front ++ l)) x) ws (r.typed ws) _ (sound_typed tokens braces ws) (λ more xs kind t.
+      sound_expect sort.Assign (λ l x. IsPred (word ∷ name ∷ (front ++ (more ++ l))) x) xs _ (λ assign ys a.
+      sound_then IsExpr (λ l x. IsPred (word ∷ name ∷ (front ++ (more ++ (assign ∷ l)))) x) ys ((free.whole tokens braces) ys) _ (sound_expr tokens braces ys) (λ body zs e q.
+      sound_expect sort.Semicolon (λ l x. IsPred (word ∷ name ∷ (front ++ (more ++ (assign ∷ (body ++ l))))) x) zs _ (λ semicolon left s.
+      sound_pure _ left _ (subst (λ (l : List Terminal). IsPred (word ∷ name ∷ (l ++ (more ++ (assign ∷ (body ++ semicolon ∷ []))))) (record { name = name.bytes; params = params; result = kind; body = e; site = name.site })) p.split
+      (subst (λ (l : List Terminal). IsPred (word ∷ name ∷ ((p.opening ∷ (p.words ++ p.closing ∷ [])) ++ (l ++ (assign ∷ (body ++ semicolon ∷ []))))) (record { name = name.bytes; params = params; result = kind; body = e; site = name.site })) t.split
+      (subst (λ (l : List Terminal). IsPred l (record { name = name.bytes; params = params; result = kind; body = e; site = name.site }))
+      (pred_words word name p.opening p.words p.closing t.sign t.words assign body semicolon)
+      (g.pred w n p.is_opening p.are_params p.is_closing t.is_sign t.spelled a q s)))))))))))
 
   proc_words : (word name opening : Terminal) (ts : List Terminal) (closing : Terminal) (us : List Terminal) → (word ∷ name ∷ opening ∷ ts ++ closing ∷ us) ≡ word ∷ name ∷ ((opening ∷ (ts ++ closing ∷ [])) ++ us)
   proc_words word name opening ts closing us = simp append_assoc
@@ -109,10 +109,10 @@ module _ (tokens braces : ℕ) where
   unfolding free.proc
   sound_proc ts = sound_expect sort.Proc IsProc ts _ (λ word us w. sound_expect sort.Name (After (word ∷ []) IsProc) us _ (λ name vs n.
       sound_then InParens (After (word ∷ name ∷ []) IsProc) vs (r.params vs) _ (sound_params vs) (λ front ws params p.
-          sound_map IsBlock (λ l x. IsProc (word ∷ name ∷ (front ++ l)) x) ws ((free.body_block tokens braces) ws) _ (sound_body tokens braces ws) (λ block body b.
-              subst (λ (l : List Terminal). IsProc (word ∷ name ∷ (l ++ block)) (record { name = name.bytes; params = params; body = body; site = name.site })) p.split
-                  (subst (λ (l : List Terminal). IsProc l (record { name = name.bytes; params = params; body = body; site = name.site })) (proc_words word name p.opening p.words p.closing block)
-                      (g.proc w n p.is_opening p.are_params p.is_closing b))))))
+      sound_map IsBlock (λ l x. IsProc (word ∷ name ∷ (front ++ l)) x) ws ((free.body_block tokens braces) ws) _ (sound_body tokens braces ws) (λ block body b.
+      subst (λ (l : List Terminal). IsProc (word ∷ name ∷ (l ++ block)) (record { name = name.bytes; params = params; body = body; site = name.site })) p.split
+      (subst (λ (l : List Terminal). IsProc l (record { name = name.bytes; params = params; body = body; site = name.site })) (proc_words word name p.opening p.words p.closing block)
+      (g.proc w n p.is_opening p.are_params p.is_closing b))))))
 
   pub sound_thread : (ts : List Terminal) → Sound IsThread ts ((free.thread tokens braces) ts)
   unfolding free.thread
@@ -134,12 +134,12 @@ module _ (tokens braces : ℕ) where
   unfolding free.program
   sound_program ts =
       sound_then (AreMany IsClass) Parses ts (many (is_sort sort.Class) r.class ts) _ (sound_items r.class IsClass sound_class sort.Class ts) (λ a us classes p.
-          sound_then IsShared (After a Parses) us (r.shared_block us) _ (sound_shared_block us) (λ b vs shared q.
-              sound_then (AreMany IsPred) (λ l x. Parses (a ++ (b ++ l)) x) vs (many (is_sort sort.Pred) (free.pred tokens braces) vs) _ (sound_items (free.pred tokens braces) IsPred sound_pred sort.Pred vs) (λ c ws preds h.
-                  sound_then (AreMany IsProc) (λ l x. Parses (a ++ (b ++ (c ++ l))) x) ws (many (is_sort sort.Proc) (free.proc tokens braces) ws) _ (sound_items (free.proc tokens braces) IsProc sound_proc sort.Proc ws) (λ d xs procs k.
-                      sound_then (AreMany IsThread) (λ l x. Parses (a ++ (b ++ (c ++ (d ++ l)))) x) xs (many (is_sort sort.Thread) (free.thread tokens braces) xs) _ (sound_items (free.thread tokens braces) IsThread sound_thread sort.Thread xs) (λ e ys threads m.
-                          sound_finish (λ l x. Parses (a ++ (b ++ (c ++ (d ++ (e ++ l))))) x) ys (record { classes = classes; shared = shared; preds = preds; procs = procs; threads = threads })
-                              (subst (λ (l : List Terminal). Parses l (record { classes = classes; shared = shared; preds = preds; procs = procs; threads = threads })) (program_words a b c d e) (g.program p q h k m)))))))
+      sound_then IsShared (After a Parses) us (r.shared_block us) _ (sound_shared_block us) (λ b vs shared q.
+      sound_then (AreMany IsPred) (λ l x. Parses (a ++ (b ++ l)) x) vs (many (is_sort sort.Pred) (free.pred tokens braces) vs) _ (sound_items (free.pred tokens braces) IsPred sound_pred sort.Pred vs) (λ c ws preds h.
+      sound_then (AreMany IsProc) (λ l x. Parses (a ++ (b ++ (c ++ l))) x) ws (many (is_sort sort.Proc) (free.proc tokens braces) ws) _ (sound_items (free.proc tokens braces) IsProc sound_proc sort.Proc ws) (λ d xs procs k.
+      sound_then (AreMany IsThread) (λ l x. Parses (a ++ (b ++ (c ++ (d ++ l)))) x) xs (many (is_sort sort.Thread) (free.thread tokens braces) xs) _ (sound_items (free.thread tokens braces) IsThread sound_thread sort.Thread xs) (λ e ys threads m.
+      sound_finish (λ l x. Parses (a ++ (b ++ (c ++ (d ++ (e ++ l))))) x) ys (record { classes = classes; shared = shared; preds = preds; procs = procs; threads = threads })
+      (subst (λ (l : List Terminal). Parses l (record { classes = classes; shared = shared; preds = preds; procs = procs; threads = threads })) (program_words a b c d e) (g.program p q h k m)))))))
 
   -- ---- nothing is left after a program
 

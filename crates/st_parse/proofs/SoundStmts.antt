@@ -67,14 +67,14 @@ module _ (tokens braces : ℕ) where
   unfolding free.cas_value
   sound_cas ts =
       sound_expect sort.Cas IsValue ts _ (λ word us w. sound_expect sort.OpenParen (After (word ∷ []) IsValue) us _ (λ opening vs o.
-          sound_then IsPlace (After (word ∷ opening ∷ []) IsValue) vs (r.place vs) _ (sound_place vs) (λ at ws place p.
-              sound_expect sort.Comma (After (word ∷ opening ∷ at) IsValue) ws _ (λ comma xs c.
-                  sound_then IsExpr (λ l x. IsValue (word ∷ opening ∷ (at ++ (comma ∷ l))) x) xs ((free.whole tokens braces) xs) _ (sound_expr xs) (λ wanted ys expected q.
-                      sound_expect sort.Comma (λ l x. IsValue (word ∷ opening ∷ (at ++ (comma ∷ (wanted ++ l)))) x) ys _ (λ comma' zs c'.
-                          sound_then IsExpr (λ l x. IsValue (word ∷ opening ∷ (at ++ (comma ∷ (wanted ++ (comma' ∷ l))))) x) zs ((free.whole tokens braces) zs) _ (sound_expr zs) (λ given rest e h.
-                              sound_expect sort.CloseParen (λ l x. IsValue (word ∷ opening ∷ (at ++ (comma ∷ (wanted ++ (comma' ∷ (given ++ l)))))) x) rest _ (λ closing left k.
-                                  sound_pure _ left _ (subst (λ (l : List Terminal). IsValue l (value.Cas place expected e word.site)) (cas_words word opening at comma wanted comma' given closing)
-                                      (g.cas w o p c q c' h k))))))))))
+      sound_then IsPlace (After (word ∷ opening ∷ []) IsValue) vs (r.place vs) _ (sound_place vs) (λ at ws place p.
+      sound_expect sort.Comma (After (word ∷ opening ∷ at) IsValue) ws _ (λ comma xs c.
+      sound_then IsExpr (λ l x. IsValue (word ∷ opening ∷ (at ++ (comma ∷ l))) x) xs ((free.whole tokens braces) xs) _ (sound_expr xs) (λ wanted ys expected q.
+      sound_expect sort.Comma (λ l x. IsValue (word ∷ opening ∷ (at ++ (comma ∷ (wanted ++ l)))) x) ys _ (λ comma' zs c'.
+      sound_then IsExpr (λ l x. IsValue (word ∷ opening ∷ (at ++ (comma ∷ (wanted ++ (comma' ∷ l))))) x) zs ((free.whole tokens braces) zs) _ (sound_expr zs) (λ given rest e h.
+      sound_expect sort.CloseParen (λ l x. IsValue (word ∷ opening ∷ (at ++ (comma ∷ (wanted ++ (comma' ∷ (given ++ l)))))) x) rest _ (λ closing left k.
+      sound_pure _ left _ (subst (λ (l : List Terminal). IsValue l (value.Cas place expected e word.site)) (cas_words word opening at comma wanted comma' given closing)
+      (g.cas w o p c q c' h k))))))))))
 
   value_at : (s : Sort) (ts : List Terminal) → Sound IsValue ts ((free.value_by tokens braces) s ts)
   value_at sort.New ts = sound_new ts
@@ -99,7 +99,7 @@ module _ (tokens braces : ℕ) where
   unfolding free.assigned
   sound_assigned ts = sound_expect sort.Assign Assigned ts _ (λ assign us a. sound_then IsValue (After (assign ∷ []) Assigned) us ((free.value_here tokens braces) us) _ (sound_value us) (λ words vs v p.
       sound_expect sort.Semicolon (λ l x. Assigned (assign ∷ (words ++ l)) x) vs _ (λ semicolon ws s.
-          sound_pure _ ws v (record { assign = assign; words = words; semicolon = semicolon; split = refl; is_assign = a; is_value = p; is_semicolon = s }))))
+      sound_pure _ ws v (record { assign = assign; words = words; semicolon = semicolon; split = refl; is_assign = a; is_value = p; is_semicolon = s }))))
 
   -- ---- statements without blocks
 
@@ -111,18 +111,18 @@ module _ (tokens braces : ℕ) where
   unfolding free.var_stmt
   sound_var ts = sound_expect sort.Var IsStmt ts _ (λ word us w. sound_expect sort.Name (After (word ∷ []) IsStmt) us _ (λ name vs n.
       sound_then (AfterSign sort.Colon IsType) (After (word ∷ name ∷ []) IsStmt) vs (r.typed vs) _ (sound_typed vs) (λ front ws kind t.
-          sound_map Assigned (λ l x. IsStmt (word ∷ name ∷ (front ++ l)) x) ws ((free.assigned tokens braces) ws) _ (sound_assigned ws) (λ more v a.
-              subst (λ (l : List Terminal). IsStmt (word ∷ name ∷ (l ++ more)) (stmt.Var name.bytes name.site kind v word.site)) t.split
-                  (subst (λ (l : List Terminal). IsStmt (word ∷ name ∷ ((t.sign ∷ t.words) ++ l)) (stmt.Var name.bytes name.site kind v word.site)) a.split
-                      (subst (λ (l : List Terminal). IsStmt l (stmt.Var name.bytes name.site kind v word.site)) (var_words word name t.sign t.words a.assign a.words a.semicolon)
-                          (g.var w n t.is_sign t.spelled a.is_assign a.is_value a.is_semicolon)))))))
+      sound_map Assigned (λ l x. IsStmt (word ∷ name ∷ (front ++ l)) x) ws ((free.assigned tokens braces) ws) _ (sound_assigned ws) (λ more v a.
+      subst (λ (l : List Terminal). IsStmt (word ∷ name ∷ (l ++ more)) (stmt.Var name.bytes name.site kind v word.site)) t.split
+      (subst (λ (l : List Terminal). IsStmt (word ∷ name ∷ ((t.sign ∷ t.words) ++ l)) (stmt.Var name.bytes name.site kind v word.site)) a.split
+      (subst (λ (l : List Terminal). IsStmt l (stmt.Var name.bytes name.site kind v word.site)) (var_words word name t.sign t.words a.assign a.words a.semicolon)
+      (g.var w n t.is_sign t.spelled a.is_assign a.is_value a.is_semicolon)))))))
 
   sound_put : (front : List Terminal) (place : Expr) → IsPlace front place → (ts : List Terminal) → Sound (After front IsStmt) ts ((free.put_after tokens braces) place ts)
   unfolding free.put_after
   sound_put front place p ts = sound_map Assigned (After front IsStmt) ts ((free.assigned tokens braces) ts) (λ v. stmt.Put place v (site_of_expr place)) (sound_assigned ts) (λ more v a.
       subst (λ (l : List Terminal). IsStmt (front ++ l) (stmt.Put place v (site_of_expr place))) a.split
-          (subst (λ (l : List Terminal). IsStmt l (stmt.Put place v (site_of_expr place))) (append_assoc front (a.assign ∷ a.words) (a.semicolon ∷ []))
-              (g.put p a.is_assign a.is_value a.is_semicolon)))
+      (subst (λ (l : List Terminal). IsStmt l (stmt.Put place v (site_of_expr place))) (append_assoc front (a.assign ∷ a.words) (a.semicolon ∷ []))
+      (g.put p a.is_assign a.is_value a.is_semicolon)))
 
   -- arguments and `)`
   record Closed (ts : List Terminal) (xs : List Expr) : Type 0 where
@@ -135,17 +135,17 @@ module _ (tokens braces : ℕ) where
   sound_closed : (ts : List Terminal) → Sound Closed ts (enclosed (listed (free.whole tokens braces)) ts)
   sound_closed ts =
       sound_enclosed (listed (free.whole tokens braces)) AreExprs AreArgs
-          (sound_listed (free.whole tokens braces) IsExpr sound_expr AreExprs (λ us x p. g.last_expr p) (λ us vs comma xs x h c p. exprs_more comma vs x c p h))
-          g.no_args (λ us xs h. g.some_args h) Closed (λ us closing xs a c. record { words = us; closing = closing; split = refl; are_args = a; is_closing = c }) ts
+      (sound_listed (free.whole tokens braces) IsExpr sound_expr AreExprs (λ us x p. g.last_expr p) (λ us vs comma xs x h c p. exprs_more comma vs x c p h))
+      g.no_args (λ us xs h. g.some_args h) Closed (λ us closing xs a c. record { words = us; closing = closing; split = refl; are_args = a; is_closing = c }) ts
 
   sound_call : (name : Terminal) → Is sort.Name name → (ts : List Terminal) → Sound (After (name ∷ []) IsStmt) ts ((free.call_after tokens braces) name ts)
   unfolding free.call_after
   sound_call name n ts = sound_expect sort.OpenParen (After (name ∷ []) IsStmt) ts _ (λ opening us o.
       sound_then Closed (After (name ∷ opening ∷ []) IsStmt) us (enclosed (listed (free.whole tokens braces)) us) _ (sound_closed us) (λ front vs args c.
-          sound_expect sort.Semicolon (λ l x. IsStmt (name ∷ opening ∷ (front ++ l)) x) vs _ (λ semicolon ws s.
-              sound_pure _ ws _ (subst (λ (l : List Terminal). IsStmt (name ∷ opening ∷ (l ++ semicolon ∷ [])) (stmt.Call name.bytes args name.site)) c.split
-                  (subst (λ (l : List Terminal). IsStmt (name ∷ opening ∷ l) (stmt.Call name.bytes args name.site)) (sym (append_assoc c.words (c.closing ∷ []) (semicolon ∷ [])))
-                      (g.called n o c.are_args c.is_closing s))))))
+      sound_expect sort.Semicolon (λ l x. IsStmt (name ∷ opening ∷ (front ++ l)) x) vs _ (λ semicolon ws s.
+      sound_pure _ ws _ (subst (λ (l : List Terminal). IsStmt (name ∷ opening ∷ (l ++ semicolon ∷ [])) (stmt.Call name.bytes args name.site)) c.split
+      (subst (λ (l : List Terminal). IsStmt (name ∷ opening ∷ l) (stmt.Call name.bytes args name.site)) (sym (append_assoc c.words (c.closing ∷ []) (semicolon ∷ [])))
+      (g.called n o c.are_args c.is_closing s))))))
 
   after_name_at : (name : Terminal) → Is sort.Name name → (s : Sort) (ts : List Terminal) → Sound (After (name ∷ []) IsStmt) ts ((free.after_name tokens braces) name s ts)
   after_name_at name n sort.Assign ts = sound_map Assigned (After (name ∷ []) IsStmt) ts ((free.assigned tokens braces) ts) (λ v. stmt.Assign name.bytes v name.site) (sound_assigned ts) (λ more v a.
@@ -174,7 +174,7 @@ module _ (tokens braces : ℕ) where
   unfolding free.condition
   sound_condition ts = sound_expect sort.OpenParen InParens ts _ (λ opening us o. sound_then IsExpr (After (opening ∷ []) InParens) us ((free.whole tokens braces) us) _ (sound_expr us) (λ front vs e p.
       sound_expect sort.CloseParen (λ l x. InParens (opening ∷ (front ++ l)) x) vs _ (λ closing ws c.
-          sound_pure _ ws _ (record { opening = opening; words = front; closing = closing; split = refl; is_opening = o; is_expr = p; is_closing = c }))))
+      sound_pure _ ws _ (record { opening = opening; words = front; closing = closing; split = refl; is_opening = o; is_expr = p; is_closing = c }))))
 
   -- ---- statements with blocks, where those inside are read well
 
@@ -197,18 +197,18 @@ module _ (tokens braces : ℕ) where
     unfolding free.if_stmt
     sound_if ts = sound_expect sort.If IsStmt ts _ (λ word us w. sound_then InParens (After (word ∷ []) IsStmt) us ((free.condition tokens braces) us) _ (sound_condition us) (λ front vs test p.
         sound_then IsBlock (λ l x. IsStmt (word ∷ (front ++ l)) x) vs (inner_block vs) _ (block_reads vs) (λ inner ws body b.
-            sound_map IsElse (λ l x. IsStmt (word ∷ (front ++ (inner ++ l))) x) ws ((free.else_part tokens braces) inner_block ws) _ (sound_else ws) (λ others other e.
-                subst (λ (l : List Terminal). IsStmt (word ∷ (l ++ (inner ++ others))) (stmt.If test body other word.site)) p.split
-                    (subst (λ (l : List Terminal). IsStmt l (stmt.If test body other word.site)) (if_words word p.opening p.words p.closing inner others)
-                        (g.if_then w p.is_opening p.is_expr p.is_closing b e))))))
+        sound_map IsElse (λ l x. IsStmt (word ∷ (front ++ (inner ++ l))) x) ws ((free.else_part tokens braces) inner_block ws) _ (sound_else ws) (λ others other e.
+        subst (λ (l : List Terminal). IsStmt (word ∷ (l ++ (inner ++ others))) (stmt.If test body other word.site)) p.split
+        (subst (λ (l : List Terminal). IsStmt l (stmt.If test body other word.site)) (if_words word p.opening p.words p.closing inner others)
+        (g.if_then w p.is_opening p.is_expr p.is_closing b e))))))
 
     sound_while : (ts : List Terminal) → Sound IsStmt ts ((free.while_stmt tokens braces) inner_block ts)
     unfolding free.while_stmt
     sound_while ts = sound_expect sort.While IsStmt ts _ (λ word us w. sound_then InParens (After (word ∷ []) IsStmt) us ((free.condition tokens braces) us) _ (sound_condition us) (λ front vs test p.
         sound_map IsBlock (λ l x. IsStmt (word ∷ (front ++ l)) x) vs (inner_block vs) _ (block_reads vs) (λ others body b.
-            subst (λ (l : List Terminal). IsStmt (word ∷ (l ++ others)) (stmt.While test body word.site)) p.split
-                (subst (λ (l : List Terminal). IsStmt l (stmt.While test body word.site)) (while_words word p.opening p.words p.closing others)
-                    (g.while_do w p.is_opening p.is_expr p.is_closing b)))))
+        subst (λ (l : List Terminal). IsStmt (word ∷ (l ++ others)) (stmt.While test body word.site)) p.split
+        (subst (λ (l : List Terminal). IsStmt l (stmt.While test body word.site)) (while_words word p.opening p.words p.closing others)
+        (g.while_do w p.is_opening p.is_expr p.is_closing b)))))
 
     stmt_at : (s : Sort) (ts : List Terminal) → Sound IsStmt ts ((free.stmt_by tokens braces) inner_block s ts)
     unfolding free.named_stmt free.shared_stmt
@@ -228,8 +228,8 @@ module _ (tokens braces : ℕ) where
     unfolding free.block_of
     sound_block ts = sound_expect sort.OpenBrace IsBlock ts _ (λ opening us o.
         sound_then AreStmts (After (opening ∷ []) IsBlock) us (many r.in_block ((free.statement tokens braces) inner_block) us) _
-            (sound_many ((free.statement tokens braces) inner_block) IsStmt sound_stmt AreStmts r.in_block g.no_stmts (λ before words xs x h p. stmts_more words x p h) us)
-            (λ front vs body p. sound_expect sort.CloseBrace (λ l x. IsBlock (opening ∷ (front ++ l)) x) vs _ (λ closing ws c. sound_pure _ ws body (g.block o p c))))
+        (sound_many ((free.statement tokens braces) inner_block) IsStmt sound_stmt AreStmts r.in_block g.no_stmts (λ before words xs x h p. stmts_more words x p h) us)
+        (λ front vs body p. sound_expect sort.CloseBrace (λ l x. IsBlock (opening ∷ (front ++ l)) x) vs _ (λ closing ws c. sound_pure _ ws body (g.block o p c))))
 
   pub sound_blocks : (depth : ℕ) (ts : List Terminal) → Sound IsBlock ts ((free.blocks tokens braces) depth ts)
   unfolding free.blocks

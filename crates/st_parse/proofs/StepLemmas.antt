@@ -151,7 +151,7 @@ module _ (inner : Level → Reader Expr) where
   unfolding after_chain r.link
   next_ok c operand left mark op us rest right o h =
       turns_go (λ s. is_some (chained c s)) (r.link inner c operand) left (expr.Binary op left right mark.site) mark (us ++ rest) rest (ap is_some o.same)
-          (binary_ok operand left (chained c mark.sort) op mark (us ++ rest) right rest o.same h) (omega (arith, length-append us rest))
+      (binary_ok operand left (chained c mark.sort) op mark (us ++ rest) right rest o.same h) (omega (arith, length-append us rest))
 
   pub chain_end : (c : Chain) (operand : Reader Expr) (e : Expr) (rest : List Terminal) → tier_of c < tier (next_sort rest) → after_chain c operand e rest ≡ Ok (e, rest)
   unfolding after_chain

@@ -46,7 +46,7 @@ module _ {A : Type 0} (asks : Sort → Bool) (turn : A → Reader A) where
   enough (suc n) zero x (t ∷ ts) a b = absurd (omega arith)
   enough (suc n) (suc m) x (t ∷ ts) a b =
       same_asked t ts x (asks t.sort) _ _ (same_turn n m t ts (turn x (t ∷ ts))
-          (λ vs y e. let fewer : length vs < length (t ∷ ts) = ltb-true _ _ e in enough n m y vs (omega arith) (omega arith)))
+      (λ vs y e. let fewer : length vs < length (t ∷ ts) = ltb-true _ _ e in enough n m y vs (omega arith) (omega arith)))
 
   pub turns_end : (x : A) (ts : List Terminal) → asks (next_sort ts) ≡ false → turns asks turn x ts ≡ Ok (x, ts)
   unfolding turns turns_from
@@ -59,5 +59,5 @@ module _ {A : Type 0} (asks : Sort → Bool) (turn : A → Reader A) where
   turns_go x y t ts us e h fewer =
       ap (λ (b : Bool). if b then (and_then (turn x (t ∷ ts)) (λ z. if_shorter (t ∷ ts) (turns_from asks turn (length ts) z))) else Ok (x, t ∷ ts)) e
       ∙ then_ok (turn x (t ∷ ts)) (λ z. if_shorter (t ∷ ts) (turns_from asks turn (length ts) z)) y us (turns_from asks turn (length ts) y us) h
-          (ap (λ (b : Bool). if b then turns_from asks turn (length ts) y us else Err us) (lt-ltb _ _ fewer))
+      (ap (λ (b : Bool). if b then turns_from asks turn (length ts) y us else Err us) (lt-ltb _ _ fewer))
       ∙ enough (length ts) (length us) y us (omega arith) (omega arith)

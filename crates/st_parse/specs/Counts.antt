@@ -66,11 +66,14 @@ mentions e = fold-Expr (List Mention) mentions_step e
 abbrev pub is_named : List Mention → List ℕ → Bool
 is_named mentions name = list_any (λ m. bytes_eq m.name name) mentions
 
--- the first mention of each name is an argument of the check
+-- a mention is an argument of the check where none before it has its name
+abbrev pub argument_item : List Mention → Mention → List Item
+argument_item before m = if is_named before m.name then [] else item.One what.CheckArgs m.site ∷ []
+
+-- the first mentions of all names, where others stand before
 abbrev pub argument_items : List Mention → List Mention → List Item
 argument_items before [] = []
-argument_items before (m ∷ ms) =
-    (if is_named before m.name then [] else item.One what.CheckArgs m.site ∷ []) ++ argument_items (before ++ m ∷ []) ms
+argument_items before (m ∷ ms) = argument_item before m ++ argument_items (before ++ m ∷ []) ms
 
 -- a check statement and its arguments
 unfoldable pub check_items : Expr → Site → List Item

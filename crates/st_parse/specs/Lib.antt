@@ -9,3 +9,4 @@ pub mod Reads
 pub mod Sorts
 pub mod Terminals
 pub mod TokenLimits
+pub mod Outcomes

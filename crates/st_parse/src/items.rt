@@ -1,8 +1,8 @@
 //! What a program has: its declarations, parameters, locals, checks and their arguments, as a list in the order of the text.
-ghost use Rattle.std.specs.Prelude.{◌≡◌, ◌++◌, OnOk, IfOk};
+ghost use Rattle.std.specs.Prelude.{◌≡◌, [], ◌++◌, OnOk, IfOk};
 ghost use Rattle.std.specs.List.{flat_map};
 ghost use Rattle.st_parse.specs.Counts as spec;
-ghost use Rattle.st_parse.specs.Mentions.{mention_views};
+ghost use Rattle.st_parse.specs.Mentions.{mention_view, mention_views};
 
 use crate::counts::Item;
 use crate::errors::What;
@@ -140,15 +140,29 @@ fn add_check(
     add_arguments(items, &mentions)
 }
 
+/// Adds a mention whose name stands in none before it.
+#[tactic(auto, using(crate::proofs::ItemLemmas::is_named_of_views))]
+fn add_argument(
+    items: &mut Vec<Item>,
+    before: &[Mention<'_>],
+    mention: Mention<'_>,
+) -> Result<(), AllocError>
+    ensures { OnOk result (items.new.items ≡ items.old.items ++ spec.argument_item (mention_views before.now) (mention_view mention.entry)) }
+{
+    if is_named(before, mention.name) {
+        return Ok(());
+    }
+    items.push(Item::One(What::CheckArgs, mention.site))?;
+    Ok(())
+}
+
 /// Adds the first mention of each name.
+#[tactic(auto, using(crate::proofs::ItemLemmas::next_argument))]
 fn add_arguments(items: &mut Vec<Item>, mentions: &[Mention<'_>]) -> Result<(), AllocError>
     ensures { OnOk result (items.new.items ≡ items.old.items ++ spec.argument_items [] (mention_views mentions.now)) }
 {
     for at in 0..mentions.len() {
-        let mention = mentions[at];
-        if !is_named(&mentions[..at], mention.name) {
-            items.push(Item::One(What::CheckArgs, mention.site))?;
-        }
+        add_argument(items, &mentions[..at], mentions[at])?;
     }
     Ok(())
 }

@@ -68,7 +68,7 @@ fn add_mentions_of_all<'a>(
 
 /// Whether one of them names a local so.
 pub fn is_named(mentions: &[Mention<'_>], name: &[u8]) -> bool
-    ensures { result ≡ spec.is_named (mention_views mentions.now) name.now }
+    ensures { result ≡ list_any (λ m. bytes_eq m.name.now name.now) mentions.now }
 {
     mentions.iter().any(|mention| mention.name == name)
 }
