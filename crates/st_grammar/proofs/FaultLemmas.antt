@@ -18,18 +18,12 @@ abbrev Known : {T K N : Type 0} → Grammar T K N → List (Symbol K N) → List
 Known g ss ts None = Unit {0}
 Known g ss ts (Some rest) = First g ss ts rest
 
-next_sorts : {T K N : Type 0} (g : Grammar T K N) (a b : List T) → next a ≡ next b → sort_of_next g a ≡ sort_of_next g b
-next_sorts g [] [] e = refl
-next_sorts g [] (y ∷ b) e = absurd cc
-next_sorts g (x ∷ a) [] e = absurd cc
-next_sorts g (x ∷ a) (y ∷ b) e = let same : x ≡ y = cc in ap g.sort same
-
-sorts_append : {T K N : Type 0} (g : Grammar T K N) (read other rest : List T) → next other ≡ next rest → sort_of_next g (read ++ other) ≡ sort_of_next g (read ++ rest)
-sorts_append g [] other rest e = next_sorts g other rest e
-sorts_append g (t ∷ read) other rest e = refl
+next_append : {T : Type 0} (read other rest : List T) → next other ≡ next rest → next (read ++ other) ≡ next (read ++ rest)
+next_append [] other rest e = e
+next_append (t ∷ read) other rest e = refl
 
 module _ {T K N : Type 0} (g : Grammar T K N) (s : Samples T K N) (start : N) (checked : IsChecked g s start) where
-  given : {ss : List (Symbol K N)} {ws : List K} → Finish g s ss ws → Faults g ss (map s.sample ws) None
+  given : {ss : List (Symbol K N)} {ws : List K} → Finish s ss ws → Faults g ss (map s.sample ws) None
   given h = finish_reads g s start checked h
 
   left_again : (t : T) (ts other : List T) → next other ≡ Some t → Faults g [] other (Some other)
@@ -50,17 +44,17 @@ module _ {T K N : Type 0} (g : Grammar T K N) (s : Samples T K N) (start : N) (c
   taken : (n : N) (ts read rest other : List T) (o : Option (List (Symbol K N))) → choice_at g n (sort_of_next g ts) ≡ o → ts ≡ read ++ rest → next other ≡ next rest
       → choice_at g n (sort_of_next g (read ++ other)) ≡ o
   taken n ts read rest other o e split same =
-      let front : sort_of_next g (read ++ other) ≡ sort_of_next g ts = sorts_append g read other rest same ∙ ap (sort_of_next g) (sym split) in
-      ap (λ (k : K). choice_at g n k) front ∙ e
+      let front : next (read ++ other) ≡ next ts = next_append read other rest same ∙ ap next (sym split) in
+      ap (λ (z : Option T). choice_at g n (option_map g.sort z)) front ∙ e
 
-  begun : (n : N) (c ss : List (Symbol K N)) (ts : List T) (rest : List T) (ws : List K) → choice_at g n (sort_of_next g ts) ≡ Some c → Finish g s (part n ∷ ss) ws
+  begun : (n : N) (c ss : List (Symbol K N)) (ts : List T) (rest : List T) (ws : List K) → choice_at g n (sort_of_next g ts) ≡ Some c → Finish s (part n ∷ ss) ws
       → (read : List T) → ts ≡ read ++ rest → (more : List T) → Faults g (c ++ ss) (read ++ more) None → (longer : List T) × Faults g (part n ∷ ss) (read ++ longer) None
   begun n c ss ts rest ws e w [] split more h = (map s.sample ws, given w)
   begun n c ss ts rest ws e w (t ∷ read) split more h =
-      let front : sort_of_next g (t ∷ read ++ more) ≡ sort_of_next g ts = ap (sort_of_next g) (sym split) in
-      (more, goes (ap (λ (k : K). choice_at g n k) front ∙ e) h)
+      let front : next (t ∷ read ++ more) ≡ next ts = ap next (sym split) in
+      (more, goes (ap (λ (z : Option T). choice_at g n (option_map g.sort z)) front ∙ e) h)
 
-  through : (n : N) (c ss : List (Symbol K N)) (ts : List T) (o : Option (List T)) (ws : List K) → choice_at g n (sort_of_next g ts) ≡ Some c → Finish g s (part n ∷ ss) ws → Known g (c ++ ss) ts o
+  through : (n : N) (c ss : List (Symbol K N)) (ts : List T) (o : Option (List T)) (ws : List K) → choice_at g n (sort_of_next g ts) ≡ Some c → Finish s (part n ∷ ss) ws → Known g (c ++ ss) ts o
       → Known g (part n ∷ ss) ts o
   through n c ss ts None ws e w k = tt
   through n c ss ts (Some rest) ws e w k =
@@ -83,13 +77,13 @@ module _ {T K N : Type 0} (g : Grammar T K N) (s : Samples T K N) (start : N) (c
     again = λ other same. fits e (h.again other same);
   }
 
-  at_once : (ss : List (Symbol K N)) (ts : List T) (ws : List K) → Finish g s ss ws → ((other : List T) → next other ≡ next ts → Faults g ss other (Some other)) → First g ss ts ts
+  at_once : (ss : List (Symbol K N)) (ts : List T) (ws : List K) → Finish s ss ws → ((other : List T) → next other ≡ next ts → Faults g ss other (Some other)) → First g ss ts ts
   at_once ss ts ws w again = record { read = []; split = refl; more = map s.sample ws; begins = given w; again = again }
 
-  after_token : {k : K} {ss : List (Symbol K N)} {ws : List K} → Finish g s (token k ∷ ss) ws → (more : List K) × Finish g s ss more
+  after_token : {k : K} {ss : List (Symbol K N)} {ws : List K} → Finish s (token k ∷ ss) ws → (more : List K) × Finish s ss more
   after_token (finish_token {ws = ws} h) = (ws, h)
 
-  known : {ss : List (Symbol K N)} {ts : List T} {o : Option (List T)} → Faults g ss ts o → (ws : List K) → Finish g s ss ws → Known g ss ts o
+  known : {ss : List (Symbol K N)} {ts : List T} {o : Option (List T)} → Faults g ss ts o → (ws : List K) → Finish s ss ws → Known g ss ts o
   known whole ws w = tt
   known (left_over {t = t} {ts = ts}) ws w = at_once [] (t ∷ ts) ws w (left_again t ts)
   known (ends {k = k} {ss = ss}) ws w = at_once (token k ∷ ss) [] ws w (ends_again k ss)

@@ -1,5 +1,5 @@
 -- A grammar as a chart: what each part may be, told by the sort of the next token; and where a list of tokens goes wrong.
-use Rattle.std.specs.Prelude.{◌≡◌, Bool, true, false, cond, List, [], ◌∷◌, ◌++◌, Option, Some, None}
+use Rattle.std.specs.Prelude.{◌≡◌, Bool, true, false, cond, List, [], ◌∷◌, ◌++◌, Option, Some, None, option_map}
 use Rattle.std.specs.List.{list_any}
 
 -- what a rule asks for next: a token of a sort, or a part that has rules of its own
@@ -12,16 +12,14 @@ pub record Told (K N : Type 0) : Type 0 where
   pub sorts : List K
   pub symbols : List (Symbol K N)
 
--- the choices of a part; the other one is taken at any other token
+-- the choices of a part; the other one is taken at any other token and at the end
 pub record Choices (K N : Type 0) : Type 0 where
   pub told : List (Told K N)
   pub other : Option (List (Symbol K N))
 
--- a grammar over tokens T of sorts K, with parts N: the sort of a token, the sort that the end counts as where a choice is
--- told, whether two sorts are one, and the choices of each part
+-- a grammar over tokens T of sorts K, with parts N: the sort of a token, whether two sorts are one, and the choices of each part
 pub record Grammar (T K N : Type 0) : Type 0 where
   pub sort : T → K
-  pub nothing : K
   pub same : K → K → Bool
   pub choices : N → Choices K N
 
@@ -35,14 +33,18 @@ abbrev pub told_of : {K N : Type 0} → (K → Bool) → List (Told K N) → Opt
 told_of test [] other = other
 told_of test (first ∷ later) other = cond (list_any test first.sorts) (Some first.symbols) (told_of test later other)
 
--- the choice of a part where the next token has this sort
-abbrev pub choice_at : {T K N : Type 0} → Grammar T K N → N → K → Option (List (Symbol K N))
-choice_at g n sort = told_of (g.same sort) (g.choices n).told (g.choices n).other
+-- by the sort of the next token; nothing is the end
+abbrev pub choice_of : {K N : Type 0} → (K → K → Bool) → Choices K N → Option K → Option (List (Symbol K N))
+choice_of same choices None = choices.other
+choice_of same choices (Some sort) = told_of (same sort) choices.told choices.other
 
--- the sort of the next token, or that of the end
-abbrev pub sort_of_next : {T K N : Type 0} → Grammar T K N → List T → K
-sort_of_next g [] = g.nothing
-sort_of_next g (t ∷ ts) = g.sort t
+-- the choice of a part where this is the sort of the next token, or nothing follows
+abbrev pub choice_at : {T K N : Type 0} → Grammar T K N → N → Option K → Option (List (Symbol K N))
+choice_at g n sort = choice_of g.same (g.choices n) sort
+
+-- the sort of the next token, if there is one
+abbrev pub sort_of_next : {T K N : Type 0} → Grammar T K N → List T → Option K
+sort_of_next g ts = option_map g.sort (next ts)
 
 -- Reading tokens for symbols, with one token of sight: what is left where the tokens first go wrong, or nothing where all
 -- is read.

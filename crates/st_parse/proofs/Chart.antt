@@ -1,5 +1,5 @@
 -- The grammar as a chart: what each part may be, told by the next token; sample words of each part, and what may stand after it.
-use Rattle.std.proofs.Common.{◌≡◌, pos, true, List, [], ◌∷◌, map, Some, None, refl}
+use Rattle.std.proofs.Common.{◌≡◌, pos, true, List, [], ◌∷◌, map, Option, Some, None, refl}
 use Rattle.st_events.specs.declared.events.Site.{Site}
 use Rattle.st_parse.specs.declared.sorts.Sort.{Sort}
 use Rattle.st_parse.specs.declared.sorts.Sort.TheVariants as sort
@@ -79,6 +79,14 @@ or_nothing rows = or_else rows []
 abbrev pub after_operator : Part → Part → Sort → Told Sort Part
 after_operator operand tail s = at_sort s (token s ∷ part operand ∷ part tail ∷ [])
 
+-- the sorts with which a statement of a block is looked for
+abbrev pub in_blocks : List Sort
+in_blocks =
+    sort.Name ∷ sort.Number ∷ sort.Class ∷ sort.Shared ∷ sort.Pred ∷ sort.Proc ∷ sort.Thread ∷ sort.Var ∷ sort.If ∷ sort.Else ∷ sort.While
+    ∷ sort.Check ∷ sort.New ∷ sort.Cas ∷ sort.Null ∷ sort.True ∷ sort.False ∷ sort.Int ∷ sort.Bool ∷ sort.OpenBrace ∷ sort.OpenParen ∷ sort.CloseParen
+    ∷ sort.Semicolon ∷ sort.Colon ∷ sort.Comma ∷ sort.Dot ∷ sort.Assign ∷ sort.Equal ∷ sort.NotEqual ∷ sort.Less ∷ sort.LessEq ∷ sort.Greater ∷ sort.GreaterEq
+    ∷ sort.Plus ∷ sort.Minus ∷ sort.Star ∷ sort.Slash ∷ sort.Percent ∷ sort.Not ∷ sort.Both ∷ sort.Either ∷ sort.Question ∷ []
+
 abbrev pub rules : Part → Choices Sort Part
 rules program = only (part classes ∷ part shared_block ∷ part preds ∷ part procs ∷ part threads ∷ [])
 rules classes = or_nothing (at_sort sort.Class (part class ∷ part classes ∷ []) ∷ [])
@@ -99,7 +107,7 @@ rules param = only (token sort.Name ∷ token sort.Colon ∷ part type ∷ [])
 rules proc = only (token sort.Proc ∷ token sort.Name ∷ token sort.OpenParen ∷ part params ∷ token sort.CloseParen ∷ part block ∷ [])
 rules thread = only (token sort.Thread ∷ token sort.Name ∷ part block ∷ [])
 rules block = only (token sort.OpenBrace ∷ part stmts ∷ token sort.CloseBrace ∷ [])
-rules stmts = or_else (at_sort sort.CloseBrace [] ∷ at_sort sort.Other [] ∷ []) (part stmt ∷ part stmts ∷ [])
+rules stmts = or_nothing (record { sorts = in_blocks; symbols = part stmt ∷ part stmts ∷ [] } ∷ [])
 rules stmt = told
     (at_sort sort.Var (token sort.Var ∷ token sort.Name ∷ token sort.Colon ∷ part type ∷ part assigned ∷ [])
     ∷ at_sort sort.Name (token sort.Name ∷ part after_name ∷ [])
@@ -108,14 +116,16 @@ rules stmt = told
     ∷ at_sort sort.While (token sort.While ∷ token sort.OpenParen ∷ part expr ∷ token sort.CloseParen ∷ part block ∷ [])
     ∷ at_sort sort.Check (token sort.Check ∷ part expr ∷ token sort.Semicolon ∷ [])
     ∷ [])
-rules after_name = told (at_sort sort.Assign (part assigned ∷ []) ∷ at_sort sort.Dot (token sort.Dot ∷ token sort.Name ∷ part field_tail ∷ part assigned ∷ []) ∷ at_sort sort.OpenParen (token sort.OpenParen ∷ part args ∷ token sort.CloseParen ∷ token sort.Semicolon ∷ []) ∷ [])
+rules after_name = told (at_sort sort.Assign (part assigned ∷ []) ∷ at_sort sort.Dot (token sort.Dot ∷ token sort.Name ∷ part field_tail ∷ part assigned ∷ []) ∷ at_sort sort.OpenParen
+    (token sort.OpenParen ∷ part args ∷ token sort.CloseParen ∷ token sort.Semicolon ∷ []) ∷ [])
 rules else_tail = or_nothing (at_sort sort.Else (token sort.Else ∷ part block ∷ []) ∷ [])
 rules assigned = only (token sort.Assign ∷ part value ∷ token sort.Semicolon ∷ [])
 rules value = or_else
     (at_sort sort.New (token sort.New ∷ token sort.Name ∷ [])
     ∷ at_sort sort.Cas (token sort.Cas ∷ token sort.OpenParen ∷ part place ∷ token sort.Comma ∷ part expr ∷ token sort.Comma ∷ part expr ∷ token sort.CloseParen ∷ [])
     ∷ []) (part expr ∷ [])
-rules place = or_else (at_sort sort.Shared (token sort.Shared ∷ token sort.Dot ∷ token sort.Name ∷ part field_tail ∷ []) ∷ []) (token sort.Name ∷ token sort.Dot ∷ token sort.Name ∷ part field_tail ∷ [])
+rules place = or_else (at_sort sort.Shared (token sort.Shared ∷ token sort.Dot ∷ token sort.Name ∷ part field_tail ∷ []) ∷ [])
+    (token sort.Name ∷ token sort.Dot ∷ token sort.Name ∷ part field_tail ∷ [])
 rules field_tail = or_nothing (at_sort sort.Dot (token sort.Dot ∷ token sort.Name ∷ part field_tail ∷ []) ∷ [])
 rules args = or_else (at_sort sort.CloseParen [] ∷ []) (part expr ∷ part args_tail ∷ [])
 rules args_tail = or_nothing (at_sort sort.Comma (token sort.Comma ∷ part expr ∷ part args_tail ∷ []) ∷ [])
@@ -145,7 +155,7 @@ rules primary = told
 rules call_tail = or_nothing (at_sort sort.OpenParen (token sort.OpenParen ∷ part args ∷ token sort.CloseParen ∷ []) ∷ [])
 
 abbrev pub grammar : Grammar Terminal Sort Part
-grammar = record { sort = λ t. t.sort; nothing = sort.Other; same = same_sort; choices = rules }
+grammar = record { sort = λ t. t.sort; same = same_sort; choices = rules }
 
 abbrev nowhere : Site
 nowhere = record { line = 1; column = 1 }
@@ -178,37 +188,37 @@ words postfix = sort.Number ∷ []
 words primary = sort.Number ∷ []
 words other = []
 
-abbrev after_expr : List Sort
-after_expr = sort.Semicolon ∷ (sort.CloseParen) ∷ (sort.Comma) ∷ (sort.Colon) ∷ []
+abbrev after_expr : List (Option Sort)
+after_expr = Some sort.Semicolon ∷ Some sort.CloseParen ∷ Some sort.Comma ∷ Some sort.Colon ∷ []
 
-abbrev pub followers : Part → List Sort
-followers program = sort.Other ∷ []
-followers classes = sort.Other ∷ []
-followers shared_block = sort.Other ∷ []
-followers preds = sort.Other ∷ []
-followers procs = sort.Other ∷ []
-followers threads = sort.Other ∷ []
-followers class = sort.Other ∷ []
-followers fields = (sort.CloseBrace) ∷ []
-followers field = (sort.CloseBrace) ∷ []
-followers type = sort.Semicolon ∷ (sort.Assign) ∷ (sort.Comma) ∷ (sort.CloseParen) ∷ []
-followers pred = sort.Other ∷ []
-followers params = (sort.CloseParen) ∷ []
-followers params_tail = (sort.CloseParen) ∷ []
-followers param = (sort.CloseParen) ∷ []
-followers proc = sort.Other ∷ []
-followers thread = sort.Other ∷ []
-followers block = sort.Other ∷ (sort.CloseBrace) ∷ []
-followers stmts = (sort.CloseBrace) ∷ []
-followers stmt = (sort.CloseBrace) ∷ []
-followers after_name = (sort.CloseBrace) ∷ []
-followers else_tail = (sort.CloseBrace) ∷ []
-followers assigned = sort.CloseBrace ∷ []
-followers value = sort.Semicolon ∷ []
-followers place = (sort.Comma) ∷ (sort.Assign) ∷ []
-followers field_tail = (sort.Assign) ∷ after_expr
-followers args = (sort.CloseParen) ∷ []
-followers args_tail = (sort.CloseParen) ∷ []
+abbrev pub followers : Part → List (Option Sort)
+followers program = None ∷ []
+followers classes = None ∷ []
+followers shared_block = None ∷ []
+followers preds = None ∷ []
+followers procs = None ∷ []
+followers threads = None ∷ []
+followers class = None ∷ []
+followers fields = Some sort.CloseBrace ∷ []
+followers field = Some sort.CloseBrace ∷ []
+followers type = Some sort.Semicolon ∷ Some sort.Assign ∷ Some sort.Comma ∷ Some sort.CloseParen ∷ []
+followers pred = None ∷ []
+followers params = Some sort.CloseParen ∷ []
+followers params_tail = Some sort.CloseParen ∷ []
+followers param = Some sort.CloseParen ∷ []
+followers proc = None ∷ []
+followers thread = None ∷ []
+followers block = None ∷ Some sort.CloseBrace ∷ []
+followers stmts = Some sort.CloseBrace ∷ []
+followers stmt = Some sort.CloseBrace ∷ []
+followers after_name = Some sort.CloseBrace ∷ []
+followers else_tail = Some sort.CloseBrace ∷ []
+followers assigned = Some sort.CloseBrace ∷ []
+followers value = Some sort.Semicolon ∷ []
+followers place = Some sort.Comma ∷ Some sort.Assign ∷ []
+followers field_tail = Some sort.Assign ∷ after_expr
+followers args = Some sort.CloseParen ∷ []
+followers args_tail = Some sort.CloseParen ∷ []
 followers other = after_expr
 
 abbrev pub samples : Samples Terminal Sort Part

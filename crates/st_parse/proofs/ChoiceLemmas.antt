@@ -14,11 +14,55 @@ use Rattle.st_parse.proofs.Chart.{Part, Symbols, grammar}
 
 -- the choice of a part where the next token has the sort
 abbrev pub chosen : Part → Sort → Option Symbols
-chosen n s = choice_at grammar n s
+chosen n s = choice_at grammar n (Some s)
 
-pub at_next : (ts : List Terminal) → sort_of_next grammar ts ≡ next_sort ts
-at_next [] = refl
-at_next (t ∷ ts) = refl
+-- at the end no rule is told
+pub at_next : (n : Part) (ts : List Terminal) → choice_at grammar n (sort_of_next grammar ts) ≡ chosen n (next_sort ts)
+unfolding same_sort
+at_next n (t ∷ ts) = refl
+at_next chart.program [] = refl
+at_next chart.classes [] = refl
+at_next chart.shared_block [] = refl
+at_next chart.preds [] = refl
+at_next chart.procs [] = refl
+at_next chart.threads [] = refl
+at_next chart.class [] = refl
+at_next chart.fields [] = refl
+at_next chart.field [] = refl
+at_next chart.type [] = refl
+at_next chart.pred [] = refl
+at_next chart.params [] = refl
+at_next chart.params_tail [] = refl
+at_next chart.param [] = refl
+at_next chart.proc [] = refl
+at_next chart.thread [] = refl
+at_next chart.block [] = refl
+at_next chart.stmts [] = refl
+at_next chart.stmt [] = refl
+at_next chart.after_name [] = refl
+at_next chart.else_tail [] = refl
+at_next chart.assigned [] = refl
+at_next chart.value [] = refl
+at_next chart.place [] = refl
+at_next chart.field_tail [] = refl
+at_next chart.args [] = refl
+at_next chart.args_tail [] = refl
+at_next chart.expr [] = refl
+at_next chart.cond_tail [] = refl
+at_next chart.or [] = refl
+at_next chart.or_tail [] = refl
+at_next chart.and [] = refl
+at_next chart.and_tail [] = refl
+at_next chart.cmp [] = refl
+at_next chart.cmp_tail [] = refl
+at_next chart.sum [] = refl
+at_next chart.sum_tail [] = refl
+at_next chart.term [] = refl
+at_next chart.term_tail [] = refl
+at_next chart.unary [] = refl
+at_next chart.postfix [] = refl
+at_next chart.primary [] = refl
+at_next chart.call_tail [] = refl
 
 -- the parts of a chain: the whole, an operand, and what may follow
 abbrev pub whole_of : Chain → Part

@@ -14,11 +14,13 @@ use Rattle.st_parse.specs.Sorts.{same_sort}
 use Rattle.st_parse.specs.Terminals.{Terminal, Is, next_sort}
 use Rattle.st_parse.specs.Reading as r
 use Rattle.st_parse.specs.Reading.{Outcome, Reader, ◌>>◌, expect, turns, one_more, is_sort, listed, enclosed}
-use Rattle.st_parse.proofs.StepLemmas.{moved, enclosed_none, enclosed_some, comma_turn, fields_go, fields_end, shared_ok, whole_ok, prefixed_ok, leaf_ok, primary_at, local_ok, call_ok, paren_ok, postfix_ok, plain_ok, not_ok, minus_ok}
+use Rattle.st_parse.proofs.StepLemmas.{moved, enclosed_none, enclosed_some, comma_turn, fields_go, fields_end, shared_ok, whole_ok, prefixed_ok, leaf_ok, primary_at, local_ok}
+use Rattle.st_parse.proofs.StepLemmas.{call_ok, paren_ok, postfix_ok, plain_ok, not_ok, minus_ok}
 use Rattle.st_parse.proofs.StepLemmas.{after_chain, first_ok, next_ok, chain_end, cmp_one, cmp_two, choice_one, choice_two}
 use Rattle.st_parse.proofs.TierLemmas.{tier, tier_of, chained_tier, compared_tier, is_other, tier_is}
 use Rattle.st_parse.proofs.TurnLemmas.{then_ok, same_is, turns_end, turns_go}
-use Rattle.st_parse.proofs.WordLemmas.{span, span_more, span_after, is_plain, chained_plain, compared_plain, expr_words, or_words, and_words, cmp_words, sum_words, term_words, postfix_words, exprs_words, starts_expr, Words}
+use Rattle.st_parse.proofs.WordLemmas.{span, span_more, span_after, is_plain, chained_plain, compared_plain, expr_words, or_words, and_words, cmp_words, sum_words, term_words}
+use Rattle.st_parse.proofs.WordLemmas.{postfix_words, exprs_words, starts_expr, Words}
 use Rattle.st_parse.proofs.WordLemmas.{separates, Plain, plain_end, plain_more}
 use Rattle.st_parse.proofs.SortLemmas.{sort_means}
 use Rattle.st_parse.specs.declared.levels.Chain.{Chain}
@@ -34,7 +36,8 @@ chain_next : (inner : Level → Reader Expr) (c : Chain) (operand : Reader Expr)
     → (span (us ++ rest) ≤ d → operand (us ++ rest) ≡ Ok (right, rest))
     → span ((ts ++ mark ∷ us) ++ rest) ≤ d → r.linked inner c operand ((ts ++ mark ∷ us) ++ rest) ≡ after_chain inner c operand (expr.Binary op left right mark.site) rest
 chain_next inner c operand d ts us rest mark op left right o p l k =
-    moved (r.linked inner c operand) d ((ts ++ mark ∷ us) ++ rest) (ts ++ mark ∷ (us ++ rest)) (after_chain inner c operand (expr.Binary op left right mark.site) rest) (append_assoc ts (mark ∷ us) rest)
+    moved (r.linked inner c operand) d ((ts ++ mark ∷ us) ++ rest) (ts ++ mark ∷ (us ++ rest)) (after_chain inner c operand (expr.Binary op left right mark.site) rest)
+    (append_assoc ts (mark ∷ us) rest)
     (λ w. let less : span (us ++ rest) < d = past mark (us ++ rest) d p (chained_plain c mark.sort op o.same) w in
     l w ∙ next_ok inner c operand left mark op us rest right o (k (omega arith)))
 
@@ -69,14 +72,18 @@ no_comma d items closing rest h =
 mutual
   unfolding r.or r.and r.sum r.term r.args listed
 
-  pub reads_choice : {ts : List Terminal} {e : Expr} → IsExpr ts e → (d : ℕ) (rest : List Terminal) → 8 < tier (next_sort rest) → span (ts ++ rest) ≤ d → r.choice (r.nested d) (ts ++ rest) ≡ Ok (e, rest)
-  reads_choice {ts = xs} {e = x} (g.only h) d rest t w = choice_one (r.nested d) (xs ++ rest) x rest (reads_or h d rest (omega arith) w ∙ chain_end (r.nested d) chain.Either (r.and (r.nested d)) x rest (omega arith)) t
+  pub reads_choice : {ts : List Terminal} {e : Expr} → IsExpr ts e → (d : ℕ) (rest : List Terminal) → 8 < tier (next_sort rest) → span (ts ++ rest) ≤ d
+      → r.choice (r.nested d) (ts ++ rest) ≡ Ok (e, rest)
+  reads_choice {ts = xs} {e = x} (g.only h) d rest t w = choice_one (r.nested d) (xs ++ rest) x rest
+      (reads_or h d rest (omega arith) w ∙ chain_end (r.nested d) chain.Either (r.and (r.nested d)) x rest (omega arith)) t
   reads_choice (g.cond {ts = ts} {us = us} {vs = vs} {question = question} {colon = colon} {test = test} {left = left} {right = right} h q l c k) d rest t w0 =
-      moved (r.choice (r.nested d)) d ((ts ++ question ∷ us ++ colon ∷ vs) ++ rest) (ts ++ question ∷ (us ++ colon ∷ (vs ++ rest))) (Ok (expr.Cond test left right question.site, rest)) (simp append_assoc)
+      moved (r.choice (r.nested d)) d ((ts ++ question ∷ us ++ colon ∷ vs) ++ rest) (ts ++ question ∷ (us ++ colon ∷ (vs ++ rest))) (Ok (expr.Cond test left right question.site, rest))
+      (simp append_assoc)
       (λ w. let one : span (us ++ colon ∷ (vs ++ rest)) < d = past question (us ++ colon ∷ (vs ++ rest)) d (or_words h).plain (is_plain refl q) w in
       let two : span (vs ++ rest) < d = past colon (vs ++ rest) d (expr_words l).plain (is_plain refl c) (omega arith) in
       choice_two (r.nested d) (ts ++ question ∷ (us ++ colon ∷ (vs ++ rest))) test question (us ++ colon ∷ (vs ++ rest)) left colon (vs ++ rest) right rest
-      (reads_or h d (question ∷ (us ++ colon ∷ (vs ++ rest))) (omega (arith, tier_is q)) w ∙ chain_end (r.nested d) chain.Either (r.and (r.nested d)) test (question ∷ (us ++ colon ∷ (vs ++ rest))) (omega (arith, tier_is q)))
+      (reads_or h d (question ∷ (us ++ colon ∷ (vs ++ rest))) (omega (arith, tier_is q)) w ∙ chain_end (r.nested d) chain.Either (r.and (r.nested d)) test
+      (question ∷ (us ++ colon ∷ (vs ++ rest))) (omega (arith, tier_is q)))
       q (whole_ok d (us ++ colon ∷ (vs ++ rest)) _ one (λ n. reads_choice l n (colon ∷ (vs ++ rest)) (omega (arith, tier_is c))))
       c (whole_ok d (vs ++ rest) _ two (λ n. reads_choice k n rest t))) w0
 
@@ -130,13 +137,16 @@ mutual
   reads_unary (g.minus_of {ts = ts} {mark = mark} {inner = inner} m h) d rest t w =
       minus_ok (r.nested d) mark (ts ++ rest) inner rest m (prefixed_ok d (ts ++ rest) _ (past {ts = []} mark (ts ++ rest) d plain_end (is_plain refl m) w) (λ n. reads_unary h n rest t))
 
-  reads_postfix : {ts : List Terminal} {e : Expr} → IsPostfix ts e → (d : ℕ) (rest : List Terminal) → 1 < tier (next_sort rest) → span (ts ++ rest) ≤ d → r.postfix (r.nested d) (ts ++ rest) ≡ r.fields_after e rest
+  reads_postfix : {ts : List Terminal} {e : Expr} → IsPostfix ts e → (d : ℕ) (rest : List Terminal) → 1 < tier (next_sort rest) → span (ts ++ rest) ≤ d
+      → r.postfix (r.nested d) (ts ++ rest) ≡ r.fields_after e rest
   reads_postfix {ts = xs} {e = x} (g.primary h) d rest t w = postfix_ok (r.nested d) (xs ++ rest) x rest (reads_primary h d rest t w)
   reads_postfix (g.field_of {ts = ts} {dot = dot} {name = name} {object = object} h p n) d rest t w0 =
-      moved (r.postfix (r.nested d)) d ((ts ++ dot ∷ name ∷ []) ++ rest) (ts ++ dot ∷ name ∷ rest) (r.fields_after (expr.Field object name.bytes dot.site) rest) (append_assoc ts (dot ∷ name ∷ []) rest)
+      moved (r.postfix (r.nested d)) d ((ts ++ dot ∷ name ∷ []) ++ rest) (ts ++ dot ∷ name ∷ rest) (r.fields_after (expr.Field object name.bytes dot.site) rest)
+      (append_assoc ts (dot ∷ name ∷ []) rest)
       (λ w. reads_postfix h d (dot ∷ name ∷ rest) (omega (arith, tier_is p)) w ∙ fields_go object dot name rest p n) w0
 
-  reads_primary : {ts : List Terminal} {e : Expr} → IsPrimary ts e → (d : ℕ) (rest : List Terminal) → 1 < tier (next_sort rest) → span (ts ++ rest) ≤ d → r.primary (r.nested d) (ts ++ rest) ≡ Ok (e, rest)
+  reads_primary : {ts : List Terminal} {e : Expr} → IsPrimary ts e → (d : ℕ) (rest : List Terminal) → 1 < tier (next_sort rest) → span (ts ++ rest) ≤ d
+      → r.primary (r.nested d) (ts ++ rest) ≡ Ok (e, rest)
   reads_primary (g.number {t = x} h) d rest t w = leaf_ok (r.nested d) sort.Number (λ y. expr.Number y.value y.site) x rest h refl refl
   reads_primary (g.truth {t = x} h) d rest t w = leaf_ok (r.nested d) sort.True (λ y. expr.Truth true y.site) x rest h refl refl
   reads_primary (g.untruth {t = x} h) d rest t w = leaf_ok (r.nested d) sort.False (λ y. expr.Truth false y.site) x rest h refl refl
@@ -148,7 +158,8 @@ mutual
       (λ w. let less : span (ts ++ closing ∷ rest) < d = past {ts = name ∷ []} opening (ts ++ closing ∷ rest) d (plain_more (is_plain refl n) plain_end) (is_plain refl o) w in
       primary_at (r.nested d) sort.Name name (opening ∷ (ts ++ closing ∷ rest)) _ n
       (call_ok (r.nested d) name opening (ts ++ closing ∷ rest) args rest n o (reads_args a d closing rest c less))) w0
-  reads_primary (g.shared_field {shared = shared} {dot = dot} {name = name} s p n) d rest t w = primary_at (r.nested d) sort.Shared shared (dot ∷ name ∷ rest) _ s (shared_ok shared dot name rest s p n)
+  reads_primary (g.shared_field {shared = shared} {dot = dot} {name = name} s p n) d rest t w = primary_at (r.nested d) sort.Shared shared (dot ∷ name ∷ rest) _ s
+      (shared_ok shared dot name rest s p n)
   reads_primary (g.paren {opening = opening} {closing = closing} {ts = ts} {inner = inner} o h c) d rest t w0 =
       moved (r.primary (r.nested d)) d ((opening ∷ ts ++ closing ∷ []) ++ rest) (opening ∷ (ts ++ closing ∷ rest)) (Ok (expr.Paren inner opening.site, rest))
       (ap (λ (l : List Terminal). opening ∷ l) (append_assoc ts (closing ∷ []) rest))
@@ -165,7 +176,8 @@ mutual
   pub reads_exprs : {ts : List Terminal} {es : List Expr} → AreExprs ts es → (d : ℕ) (closing : Terminal) (rest : List Terminal) → Is sort.CloseParen closing → span (ts ++ closing ∷ rest) < d
       → listed (r.nested d level.Whole) (ts ++ closing ∷ rest) ≡ Ok (es, closing ∷ rest)
   reads_exprs (g.last_expr {ts = ts} {e = e} h) d closing rest c w =
-      then_ok (r.nested d level.Whole (ts ++ closing ∷ rest)) _ e (closing ∷ rest) _ (whole_ok d (ts ++ closing ∷ rest) _ w (λ n. reads_choice h n (closing ∷ rest) (omega (arith, tier_is c)))) (no_comma d (e ∷ []) closing rest c)
+      then_ok (r.nested d level.Whole (ts ++ closing ∷ rest)) _ e (closing ∷ rest) _
+      (whole_ok d (ts ++ closing ∷ rest) _ w (λ n. reads_choice h n (closing ∷ rest) (omega (arith, tier_is c)))) (no_comma d (e ∷ []) closing rest c)
   reads_exprs (g.next_expr {ts = ts} {us = us} {comma = comma} {e = e} {es = es} h m k) d closing rest c w =
       let same : (ts ++ comma ∷ us) ++ closing ∷ rest ≡ ts ++ comma ∷ (us ++ closing ∷ rest) = append_assoc ts (comma ∷ us) (closing ∷ rest) in
       let within : span (ts ++ comma ∷ (us ++ closing ∷ rest)) < d = subst (λ (l : List Terminal). span l < d) same w in
@@ -177,11 +189,13 @@ mutual
   reads_more : {ts : List Terminal} {es : List Expr} → AreExprs ts es → (d : ℕ) (items : List Expr) (comma closing : Terminal) (rest : List Terminal) → Is sort.Comma comma → Is sort.CloseParen closing
       → span (ts ++ closing ∷ rest) < d → More d items (comma ∷ (ts ++ closing ∷ rest)) ≡ Ok (items ++ es, closing ∷ rest)
   reads_more (g.last_expr {ts = ts} {e = e} h) d items comma closing rest m c w =
-      one_argument d items comma ts (closing ∷ rest) e m (whole_ok d (ts ++ closing ∷ rest) _ w (λ n. reads_choice h n (closing ∷ rest) (omega (arith, tier_is c)))) ∙ no_comma d (items ++ e ∷ []) closing rest c
+      one_argument d items comma ts (closing ∷ rest) e m (whole_ok d (ts ++ closing ∷ rest) _ w (λ n. reads_choice h n (closing ∷ rest) (omega (arith, tier_is c)))) ∙ no_comma d
+      (items ++ e ∷ []) closing rest c
   reads_more (g.next_expr {ts = ts} {us = us} {comma = other} {e = e} {es = es} h n k) d items comma closing rest m c w =
       let same : (ts ++ other ∷ us) ++ closing ∷ rest ≡ ts ++ other ∷ (us ++ closing ∷ rest) = append_assoc ts (other ∷ us) (closing ∷ rest) in
       let within : span (ts ++ other ∷ (us ++ closing ∷ rest)) < d = subst (λ (l : List Terminal). span l < d) same w in
       ap (λ (l : List Terminal). More d items (comma ∷ l)) same
-      ∙ one_argument d items comma ts (other ∷ (us ++ closing ∷ rest)) e m (whole_ok d (ts ++ other ∷ (us ++ closing ∷ rest)) _ within (λ j. reads_choice h j (other ∷ (us ++ closing ∷ rest)) (omega (arith, tier_is n))))
+      ∙ one_argument d items comma ts (other ∷ (us ++ closing ∷ rest)) e m
+      (whole_ok d (ts ++ other ∷ (us ++ closing ∷ rest)) _ within (λ j. reads_choice h j (other ∷ (us ++ closing ∷ rest)) (omega (arith, tier_is n))))
       ∙ reads_more k d (items ++ e ∷ []) other closing rest n c (past other (us ++ closing ∷ rest) d (expr_words h).plain (is_plain refl n) (omega arith))
       ∙ ap (λ (l : List Expr). Ok (l, closing ∷ rest)) (append_assoc items (e ∷ []) es)

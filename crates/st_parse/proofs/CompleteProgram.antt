@@ -1,5 +1,6 @@
 -- What is spelled as a declaration or a program is read so, where the limits on the terminals are kept.
-use Rattle.std.proofs.Common.{◌≡◌, ℕ, zero, suc, ◌+◌, ◌≤◌, ◌<◌, Bool, true, false, if◌then◌else◌, List, [], ◌∷◌, ◌++◌, length, Option, Some, None, Ok, Err, refl, sym, ap, subst, ◌∙◌, append_assoc, append-nil, arith, length-append}
+use Rattle.std.proofs.Common.{◌≡◌, ℕ, zero, suc, ◌+◌, ◌≤◌, ◌<◌, Bool, true, false, if◌then◌else◌, List, [], ◌∷◌, ◌++◌, length, Option, Some, None, Ok, Err, refl, sym, ap, subst}
+use Rattle.std.proofs.Common.{◌∙◌, append_assoc, append-nil, arith, length-append}
 use Rattle.st_ast.specs.declared.declarations.Class.{Class}
 use Rattle.st_ast.specs.declared.declarations.Field.{Field}
 use Rattle.st_ast.specs.declared.declarations.Param.{Param}
@@ -71,7 +72,8 @@ module _ (tokens braces : ℕ) where
 
     module _ (W : List Terminal → Type 0) (onward : (ts : List Terminal) (x : A) (rest : List Terminal) → P ts x → W (ts ++ rest) → W rest)
         (reads : (ts : List Terminal) (x : A) (rest : List Terminal) → P ts x → W (ts ++ rest) → item (ts ++ rest) ≡ Ok (x, rest)) where
-      reads_items : {ts : List Terminal} {xs : List A} → AreMany P ts xs → (items : List A) (rest : List Terminal) → same_sort (next_sort rest) s ≡ false → W (ts ++ rest) → Items items (ts ++ rest) ≡ Ok (items ++ xs, rest)
+      reads_items : {ts : List Terminal} {xs : List A} → AreMany P ts xs → (items : List A) (rest : List Terminal) → same_sort (next_sort rest) s ≡ false → W (ts ++ rest)
+          → Items items (ts ++ rest) ≡ Ok (items ++ xs, rest)
       unfolding Items
       reads_items g.none items rest e w = turns_end (is_sort s) (one_more item) items rest e ∙ ap (λ (l : List A). Ok (l, rest)) (sym (append-nil items))
       reads_items (g.more {ts = ts} {us = us} {item = x} {items = xs} h k) items rest e w =
@@ -79,7 +81,8 @@ module _ (tokens braces : ℕ) where
           ap (turns (is_sort s) (one_more item) items) (append_assoc ts us rest) ∙ items_go items ts x (us ++ rest) (begins ts x h) (reads ts x (us ++ rest) h all)
           ∙ reads_items k (items ++ x ∷ []) rest e (onward ts x (us ++ rest) h all) ∙ ap (λ (l : List A). Ok (l, rest)) (append_assoc items (x ∷ []) xs)
 
-      pub reads_many : {ts : List Terminal} {xs : List A} → AreMany P ts xs → (rest : List Terminal) → same_sort (next_sort rest) s ≡ false → W (ts ++ rest) → many (is_sort s) item (ts ++ rest) ≡ Ok (xs, rest)
+      pub reads_many : {ts : List Terminal} {xs : List A} → AreMany P ts xs → (rest : List Terminal) → same_sort (next_sort rest) s ≡ false → W (ts ++ rest)
+          → many (is_sort s) item (ts ++ rest) ≡ Ok (xs, rest)
       unfolding many Items
       reads_many h rest e w = reads_items h [] rest e w
 
@@ -113,12 +116,14 @@ module _ (tokens braces : ℕ) where
   unfolding same_sort
   not_name h = ap (λ (s : Sort). same_sort s sort.Name) h.same
 
-  reads_fields : (opening : Terminal) (ts : List Terminal) (closing : Terminal) (rest : List Terminal) (fields : List Field) → Is sort.OpenBrace opening → AreMany IsField ts fields → Is sort.CloseBrace closing
+  reads_fields : (opening : Terminal) (ts : List Terminal) (closing : Terminal) (rest : List Terminal) (fields : List Field) → Is sort.OpenBrace opening → AreMany IsField ts fields
+      → Is sort.CloseBrace closing
       → r.fields (opening ∷ (ts ++ closing ∷ rest)) ≡ Ok (fields, rest)
   unfolding r.fields Always
   reads_fields opening ts closing rest fields o h c = expect_then sort.OpenBrace _ opening (ts ++ closing ∷ rest) _ o
       (then_ok (many (is_sort sort.Name) r.field (ts ++ closing ∷ rest)) _ fields (closing ∷ rest) _
-      (reads_many sort.Name r.field IsField (λ us x p. field_begins p) Always (λ us x left p w. tt) (λ us x left p w. reads_field left p w) h (closing ∷ rest) (not_name c) tt) (expect_then sort.CloseBrace _ closing rest _ c refl))
+      (reads_many sort.Name r.field IsField (λ us x p. field_begins p) Always (λ us x left p w. tt) (λ us x left p w. reads_field left p w) h (closing ∷ rest) (not_name c) tt)
+      (expect_then sort.CloseBrace _ closing rest _ c refl))
 
   pub class_begins : {ts : List Terminal} {c : Class} → IsClass ts c → FirstIs sort.Class ts
   class_begins (g.class w n o h c) = first_of _ w
@@ -178,14 +183,16 @@ module _ (tokens braces : ℕ) where
       turns_go (is_sort sort.Comma) (one_more (expect sort.Comma >> r.param)) items (items ++ p ∷ []) comma (ts ++ rest) rest (same_is sort.Comma comma c)
       (comma_turn r.param items comma (ts ++ rest) p rest c (reads_param rest h)) (omega (arith, length-append ts rest))
 
-  reads_more : {ts : List Terminal} {ps : List Param} → AreListed IsParam ts ps → (items : List Param) (comma closing : Terminal) (rest : List Terminal) → Is sort.Comma comma → Is sort.CloseParen closing
+  reads_more : {ts : List Terminal} {ps : List Param} → AreListed IsParam ts ps → (items : List Param) (comma closing : Terminal) (rest : List Terminal) → Is sort.Comma comma
+      → Is sort.CloseParen closing
       → More items (comma ∷ (ts ++ closing ∷ rest)) ≡ Ok (items ++ ps, closing ∷ rest)
   reads_more (g.last {ts = ts} {item = p} h) items comma closing rest m c = one_parameter items comma ts (closing ∷ rest) p m h ∙ no_comma (items ++ p ∷ []) closing rest c
   reads_more (g.next {ts = ts} {us = us} {comma = other} {item = p} {items = ps} h n k) items comma closing rest m c =
       ap (λ (l : List Terminal). More items (comma ∷ l)) (append_assoc ts (other ∷ us) (closing ∷ rest)) ∙ one_parameter items comma ts (other ∷ (us ++ closing ∷ rest)) p m h
       ∙ reads_more k (items ++ p ∷ []) other closing rest n c ∙ ap (λ (l : List Param). Ok (l, closing ∷ rest)) (append_assoc items (p ∷ []) ps)
 
-  reads_listed : {ts : List Terminal} {ps : List Param} → AreListed IsParam ts ps → (closing : Terminal) (rest : List Terminal) → Is sort.CloseParen closing → listed r.param (ts ++ closing ∷ rest) ≡ Ok (ps, closing ∷ rest)
+  reads_listed : {ts : List Terminal} {ps : List Param} → AreListed IsParam ts ps → (closing : Terminal) (rest : List Terminal) → Is sort.CloseParen closing
+      → listed r.param (ts ++ closing ∷ rest) ≡ Ok (ps, closing ∷ rest)
   unfolding listed
   reads_listed (g.last {ts = ts} {item = p} h) closing rest c = then_ok (r.param (ts ++ closing ∷ rest)) _ p (closing ∷ rest) _ (reads_param (closing ∷ rest) h) (no_comma (p ∷ []) closing rest c)
   reads_listed (g.next {ts = ts} {us = us} {comma = comma} {item = p} {items = ps} h n k) closing rest c =
@@ -207,7 +214,8 @@ module _ (tokens braces : ℕ) where
   unfolding r.params
   reads_params opening ts closing rest ps o g.no_params c = expect_then sort.OpenParen (λ _. enclosed (listed r.param)) opening (closing ∷ rest) _ o (enclosed_none (listed r.param) closing rest c)
   reads_params opening ts closing rest ps o (g.some_params h) c = expect_then sort.OpenParen (λ _. enclosed (listed r.param)) opening (ts ++ closing ∷ rest) _ o
-      (enclosed_some (listed r.param) (ts ++ closing ∷ rest) ps closing rest (apart is_name (next_sort (ts ++ closing ∷ rest)) sort.CloseParen (first_test is_name (closing ∷ rest) (listed_begins h) refl) refl)
+      (enclosed_some (listed r.param) (ts ++ closing ∷ rest) ps closing rest
+      (apart is_name (next_sort (ts ++ closing ∷ rest)) sort.CloseParen (first_test is_name (closing ∷ rest) (listed_begins h) refl) refl)
       (reads_listed h closing rest c) c)
 
   -- ---- predicates, procedures, threads
@@ -222,13 +230,16 @@ module _ (tokens braces : ℕ) where
 
   reads_pred : {ts : List Terminal} {p : Pred} (rest : List Terminal) → IsPred ts p → Within tokens braces 0 (ts ++ rest) → (free.pred tokens braces) (ts ++ rest) ≡ Ok (p, rest)
   unfolding free.pred
-  reads_pred rest (g.pred {word = word} {name = name} {opening = opening} {closing = closing} {colon = colon} {assign = assign} {semicolon = semicolon} {ts = ts} {us = us} {vs = vs} {params = params} {result = result} {body = body} w n o h c d t a e s)
+  reads_pred rest (g.pred {word = word} {name = name} {opening = opening} {closing = closing} {colon = colon} {assign = assign} {semicolon = semicolon} {ts = ts} {us = us}
+      {vs = vs} {params = params} {result = result} {body = body} w n o h c d t a e s)
       within =
       let end : List Terminal = vs ++ semicolon ∷ rest in
-      let same : (word ∷ name ∷ opening ∷ ts ++ closing ∷ colon ∷ us ++ assign ∷ vs ++ semicolon ∷ []) ++ rest ≡ word ∷ name ∷ opening ∷ (ts ++ closing ∷ colon ∷ (us ++ assign ∷ (vs ++ semicolon ∷ rest))) = simp append_assoc in
+      let same : (word ∷ name ∷ opening ∷ ts ++ closing ∷ colon ∷ us ++ assign ∷ vs ++ semicolon ∷ []) ++ rest ≡ word ∷ name ∷ opening ∷
+      (ts ++ closing ∷ colon ∷ (us ++ assign ∷ (vs ++ semicolon ∷ rest))) = simp append_assoc in
       let all : Within tokens braces 0 (word ∷ name ∷ opening ∷ (ts ++ closing ∷ colon ∷ (us ++ assign ∷ (vs ++ semicolon ∷ rest)))) = subst (Within tokens braces 0) same within in
       let some : Within tokens braces 0 (closing ∷ colon ∷ (us ++ assign ∷ (vs ++ semicolon ∷ rest))) =
-      within_plain tokens braces {ws = word ∷ name ∷ opening ∷ ts} (closing ∷ colon ∷ (us ++ assign ∷ (vs ++ semicolon ∷ rest))) (plain_more (is_plain refl w) (plain_more (is_plain refl n) (plain_more (is_plain refl o) (params_plain h)))) all in
+      within_plain tokens braces {ws = word ∷ name ∷ opening ∷ ts} (closing ∷ colon ∷ (us ++ assign ∷ (vs ++ semicolon ∷ rest)))
+      (plain_more (is_plain refl w) (plain_more (is_plain refl n) (plain_more (is_plain refl o) (params_plain h)))) all in
       let less : span (vs ++ semicolon ∷ rest) < tokens =
       past {ts = closing ∷ colon ∷ us} assign (vs ++ semicolon ∷ rest) tokens (plain_more (is_plain refl c) (plain_more (is_plain refl d) (type_plain t))) (is_plain refl a) (within_span some) in
       ap (free.pred tokens braces) same ∙ expect_then sort.Pred _ word (name ∷ opening ∷ (ts ++ closing ∷ colon ∷ (us ++ assign ∷ (vs ++ semicolon ∷ rest)))) _ w
@@ -249,7 +260,8 @@ module _ (tokens braces : ℕ) where
 
   pub proc_even : {ts : List Terminal} {p : Proc} → IsProc ts p → Even ts
   proc_even (g.proc w n o h c b) =
-      even_append (even_plain (plain_more (is_plain refl w) (plain_more (is_plain refl n) (plain_more (is_plain refl o) (params_plain h))))) (even_append (even_plain (plain_more (is_plain refl c) plain_end)) (block_even b))
+      even_append (even_plain (plain_more (is_plain refl w) (plain_more (is_plain refl n) (plain_more (is_plain refl o) (params_plain h)))))
+      (even_append (even_plain (plain_more (is_plain refl c) plain_end)) (block_even b))
 
   reads_proc : {ts : List Terminal} {p : Proc} (rest : List Terminal) → IsProc ts p → Within tokens braces 0 (ts ++ rest) → (free.proc tokens braces) (ts ++ rest) ≡ Ok (p, rest)
   unfolding free.proc
@@ -257,8 +269,10 @@ module _ (tokens braces : ℕ) where
       let same : (word ∷ name ∷ opening ∷ ts ++ closing ∷ us) ++ rest ≡ word ∷ name ∷ opening ∷ (ts ++ closing ∷ (us ++ rest)) = simp append_assoc in
       let all : Within tokens braces 0 (word ∷ name ∷ opening ∷ (ts ++ closing ∷ (us ++ rest))) = subst (Within tokens braces 0) same within in
       let some : Within tokens braces 0 (closing ∷ (us ++ rest)) =
-      within_plain tokens braces {ws = word ∷ name ∷ opening ∷ ts} (closing ∷ (us ++ rest)) (plain_more (is_plain refl w) (plain_more (is_plain refl n) (plain_more (is_plain refl o) (params_plain h)))) all in
-      ap (free.proc tokens braces) same ∙ expect_then sort.Proc _ word (name ∷ opening ∷ (ts ++ closing ∷ (us ++ rest))) _ w (expect_then sort.Name _ name (opening ∷ (ts ++ closing ∷ (us ++ rest))) _ n
+      within_plain tokens braces {ws = word ∷ name ∷ opening ∷ ts} (closing ∷ (us ++ rest))
+      (plain_more (is_plain refl w) (plain_more (is_plain refl n) (plain_more (is_plain refl o) (params_plain h)))) all in
+      ap (free.proc tokens braces) same ∙ expect_then sort.Proc _ word (name ∷ opening ∷ (ts ++ closing ∷ (us ++ rest))) _ w
+      (expect_then sort.Name _ name (opening ∷ (ts ++ closing ∷ (us ++ rest))) _ n
       (then_ok (r.params (opening ∷ (ts ++ closing ∷ (us ++ rest)))) _ params (us ++ rest) _ (reads_params opening ts closing (us ++ rest) params o h c)
       (then_ok ((free.body_block tokens braces) (us ++ rest)) _ body rest _ (reads_body b rest (within_sign tokens braces c refl some)) refl)))
 
@@ -272,7 +286,8 @@ module _ (tokens braces : ℕ) where
   unfolding free.thread
   reads_thread rest (g.thread {word = word} {name = name} {ts = ts} {body = body} w n b) within =
       expect_then sort.Thread _ word (name ∷ (ts ++ rest)) _ w (expect_then sort.Name _ name (ts ++ rest) _ n
-      (then_ok ((free.body_block tokens braces) (ts ++ rest)) _ body rest _ (reads_body b rest (within_plain tokens braces {ws = word ∷ name ∷ []} (ts ++ rest) (plain_more (is_plain refl w) (plain_more (is_plain refl n) plain_end)) within)) refl))
+      (then_ok ((free.body_block tokens braces) (ts ++ rest)) _ body rest _
+      (reads_body b rest (within_plain tokens braces {ws = word ∷ name ∷ []} (ts ++ rest) (plain_more (is_plain refl w) (plain_more (is_plain refl n) plain_end)) within)) refl))
 
   -- ---- programs
 
@@ -329,16 +344,22 @@ module _ (tokens braces : ℕ) where
       let four : Within tokens braces 0 (ws ++ (xs ++ [])) = within_even (ws ++ (xs ++ [])) (many_even (λ ts x p. pred_even p) c) three in
       let five : Within tokens braces 0 (xs ++ []) = within_even (xs ++ []) (many_even (λ ts x p. proc_even p) d) four in
       let t5 : from_threads (next_sort (xs ++ [])) ≡ true = many_test sort.Thread (free.thread tokens braces) IsThread (λ ts x p. thread_begins p) from_threads [] e refl refl in
-      let t4 : from_procs (next_sort (ws ++ (xs ++ []))) ≡ true = many_test sort.Proc (free.proc tokens braces) IsProc (λ ts x p. proc_begins p) from_procs (xs ++ []) d refl ((weaker (next_sort (xs ++ []))).0 t5) in
-      let t3 : from_preds (next_sort (vs ++ (ws ++ (xs ++ [])))) ≡ true = many_test sort.Pred (free.pred tokens braces) IsPred (λ ts x p. pred_begins p) from_preds (ws ++ (xs ++ [])) c refl ((weaker (next_sort (ws ++ (xs ++ [])))).1 t4) in
+      let t4 : from_procs (next_sort (ws ++ (xs ++ []))) ≡ true = many_test sort.Proc (free.proc tokens braces) IsProc (λ ts x p. proc_begins p) from_procs (xs ++ []) d refl
+      ((weaker (next_sort (xs ++ []))).0 t5) in
+      let t3 : from_preds (next_sort (vs ++ (ws ++ (xs ++ [])))) ≡ true = many_test sort.Pred (free.pred tokens braces) IsPred (λ ts x p. pred_begins p) from_preds (ws ++ (xs ++ [])) c refl
+      ((weaker (next_sort (ws ++ (xs ++ [])))).1 t4) in
       let t2 : from_shared (next_sort (us ++ (vs ++ (ws ++ (xs ++ []))))) ≡ true = shared_test (vs ++ (ws ++ (xs ++ []))) b t3 in
       ap (free.program tokens braces) same
       ∙ then_ok (many (is_sort sort.Class) r.class (ts ++ (us ++ (vs ++ (ws ++ (xs ++ [])))))) _ classes (us ++ (vs ++ (ws ++ (xs ++ [])))) _
-      (reads_many sort.Class r.class IsClass (λ ts x p. class_begins p) (Within tokens braces 0) (λ ts x rest p w. within_even rest (class_even p) w) (λ ts x rest p w. reads_class rest p w) a (us ++ (vs ++ (ws ++ (xs ++ [])))) (apart from_shared _ sort.Class t2 refl) one)
+      (reads_many sort.Class r.class IsClass (λ ts x p. class_begins p) (Within tokens braces 0) (λ ts x rest p w. within_even rest (class_even p) w)
+      (λ ts x rest p w. reads_class rest p w) a (us ++ (vs ++ (ws ++ (xs ++ [])))) (apart from_shared _ sort.Class t2 refl) one)
       (then_ok (r.shared_block (us ++ (vs ++ (ws ++ (xs ++ []))))) _ shared (vs ++ (ws ++ (xs ++ []))) _ (reads_shared (vs ++ (ws ++ (xs ++ []))) b (apart from_preds _ sort.Shared t3 refl))
       (then_ok (many (is_sort sort.Pred) (free.pred tokens braces) (vs ++ (ws ++ (xs ++ [])))) _ preds (ws ++ (xs ++ [])) _
-      (reads_many sort.Pred (free.pred tokens braces) IsPred (λ ts x p. pred_begins p) (Within tokens braces 0) (λ ts x rest p w. within_even rest (pred_even p) w) (λ ts x rest p w. reads_pred rest p w) c (ws ++ (xs ++ [])) (apart from_procs _ sort.Pred t4 refl) three)
+      (reads_many sort.Pred (free.pred tokens braces) IsPred (λ ts x p. pred_begins p) (Within tokens braces 0) (λ ts x rest p w. within_even rest (pred_even p) w)
+      (λ ts x rest p w. reads_pred rest p w) c (ws ++ (xs ++ [])) (apart from_procs _ sort.Pred t4 refl) three)
       (then_ok (many (is_sort sort.Proc) (free.proc tokens braces) (ws ++ (xs ++ []))) _ procs (xs ++ []) _
-      (reads_many sort.Proc (free.proc tokens braces) IsProc (λ ts x p. proc_begins p) (Within tokens braces 0) (λ ts x rest p w. within_even rest (proc_even p) w) (λ ts x rest p w. reads_proc rest p w) d (xs ++ []) (apart from_threads _ sort.Proc t5 refl) four)
+      (reads_many sort.Proc (free.proc tokens braces) IsProc (λ ts x p. proc_begins p) (Within tokens braces 0) (λ ts x rest p w. within_even rest (proc_even p) w)
+      (λ ts x rest p w. reads_proc rest p w) d (xs ++ []) (apart from_threads _ sort.Proc t5 refl) four)
       (then_ok (many (is_sort sort.Thread) (free.thread tokens braces) (xs ++ [])) _ threads [] _
-      (reads_many sort.Thread (free.thread tokens braces) IsThread (λ ts x p. thread_begins p) (Within tokens braces 0) (λ ts x rest p w. within_even rest (thread_even p) w) (λ ts x rest p w. reads_thread rest p w) e [] other_thread five) refl))))
+      (reads_many sort.Thread (free.thread tokens braces) IsThread (λ ts x p. thread_begins p) (Within tokens braces 0) (λ ts x rest p w. within_even rest (thread_even p) w)
+      (λ ts x rest p w. reads_thread rest p w) e [] other_thread five) refl))))

@@ -1,5 +1,6 @@
 -- What the readers of programs answer, in the terms of the grammar.
-use Rattle.std.proofs.Common.{◌≡◌, ℕ, zero, suc, pred, ◌+◌, ◌≤◌, ◌<◌, Bool, true, false, cond, List, [], ◌∷◌, ◌++◌, length, take, drop, Option, Some, None, Result, Ok, Err, refl, ap, sym, ◌∙◌, subst, append_assoc, append-nil, arith, add-one, length-append}
+use Rattle.std.proofs.Common.{◌≡◌, ℕ, zero, suc, pred, ◌+◌, ◌≤◌, ◌<◌, Bool, true, false, cond, ◌⊎◌, inl, inr, List, [], ◌∷◌, ◌++◌, length, take, drop, Option, Some, None, Result}
+use Rattle.std.proofs.Common.{Ok, Err, refl, ap, sym, ◌∙◌, subst, append_assoc, append-nil, arith, add-one, length-append}
 use Rattle.std.proofs.Math.Seq.{take-append_seam, take-append-add, drop-append_seam}
 use Rattle.std.proofs.lemmas.List.{take-append-drop, take-take}
 use Rattle.st_ast.specs.declared.declarations.Program.{Program}
@@ -57,7 +58,8 @@ freely ts = free_within (length ts) (length ts) 0 ts (omega arith) (omega arith)
 
 pub spelled_is_text : (ts : List Terminal) (tree : Program) → Parses ts tree → IsText grammar chart.program ts
 spelled_is_text ts tree h =
-    subst (λ (o : Outcome Program). Final (length ts) (length ts) (part chart.program ∷ []) ts o) (spelled_is_read (length ts) (length ts) h (freely ts)) (follows_program (length ts) (length ts) ts (freely ts))
+    subst (λ (o : Outcome Program). Final (length ts) (length ts) (part chart.program ∷ []) ts o) (spelled_is_read (length ts) (length ts) h (freely ts))
+    (follows_program (length ts) (length ts) ts (freely ts))
 
 pub text_is_spelled : (ts : List Terminal) → IsText grammar chart.program ts → (tree : Program) × Parses ts tree
 text_is_spelled ts h = by (free.program (length ts) (length ts) ts) refl (follows_program (length ts) (length ts) ts (freely ts))
@@ -94,7 +96,8 @@ text_begins : (ts : List Terminal) → BeginsText ts → (more : List Terminal) 
 text_begins ts b = (b.more, spelled_is_text (ts ++ b.more) b.tree b.spelled)
 
 -- with the next terminal they begin none
-none_with : (read rest : List Terminal) → ((other : List Terminal) → next other ≡ next rest → IsText grammar chart.program (read ++ other) → ⊥) → length read < length (read ++ rest) → BeginsText (take (suc (length read)) (read ++ rest)) → ⊥
+none_with : (read rest : List Terminal) → ((other : List Terminal) → next other ≡ next rest → IsText grammar chart.program (read ++ other) → ⊥) → length read < length (read ++ rest)
+    → BeginsText (take (suc (length read)) (read ++ rest)) → ⊥
 none_with read [] ends h b = omega (arith, length-append {A = Terminal} read [])
 none_with read (t ∷ us) ends h b =
     let front : take (suc (length read)) (read ++ t ∷ us) ≡ read ++ t ∷ [] = ap (λ (n : ℕ). take n (read ++ t ∷ us)) (sym (add-one (length read))) ∙ take-append-add read (t ∷ us) 1 in
@@ -110,7 +113,8 @@ first_of ts rest f =
       fault = record {
         within = omega (arith, ap length f.split, length-append f.read rest);
         before = subst BeginsText (sym front) (record { more = f.more; tree = known.0; spelled = known.1 });
-        here = λ less b. none_with f.read rest f.ends (subst (λ (l : List Terminal). length f.read < length l) f.split less) (subst (λ (l : List Terminal). BeginsText (take (suc (length f.read)) l)) f.split b);
+        here = λ less b. none_with f.read rest f.ends (subst (λ (l : List Terminal). length f.read < length l) f.split less)
+            (subst (λ (l : List Terminal). BeginsText (take (suc (length f.read)) l)) f.split b);
         no_text = λ tree h. f.ends rest refl (subst (IsText grammar chart.program) f.split (spelled_is_text ts tree h));
       };
       left = sym (ap (drop (length f.read)) f.split ∙ drop-append_seam f.read rest);
@@ -123,6 +127,15 @@ stops_at_fault ts rest w e =
     let fault : Faults grammar (part chart.program ∷ []) ts (Some rest) =
     subst (λ (o : Outcome Program). Final MOST_TOKENS_BETWEEN MOST_OPEN_BRACES (part chart.program ∷ []) ts o) same (follows_program MOST_TOKENS_BETWEEN MOST_OPEN_BRACES ts w) in
     first_of ts rest (first_fault grammar samples chart.program checked ts rest fault)
+
+-- a list of terminals has a tree or a first fault
+pub text_or_fault : (ts : List Terminal) → ((tree : Program) × Parses ts tree) ⊎ ((index : ℕ) × IsFirstFault ts index)
+text_or_fault ts = by (free.program (length ts) (length ts) ts) refl (follows_program (length ts) (length ts) ts (freely ts))
+  where
+    by : (o : Outcome Program) → free.program (length ts) (length ts) ts ≡ o → Final (length ts) (length ts) (part chart.program ∷ []) ts o
+        → ((tree : Program) × Parses ts tree) ⊎ ((index : ℕ) × IsFirstFault ts index)
+    by (Ok p) e f = inl (p.0, (read_is_spelled (length ts) (length ts) ts p.0 p.1 e).0)
+    by (Err rest) e f = let at : LeftAt ts rest = first_of ts rest (first_fault grammar samples chart.program checked ts rest f) in inr (at.index, at.fault)
 
 -- ---- one first fault
 

@@ -1,5 +1,6 @@
 -- The readers of expressions follow the chart, where the depth is enough.
-use Rattle.std.proofs.Common.{◌≡◌, ◌≢◌, ℕ, zero, suc, ◌≤◌, ◌<◌, Bool, true, false, if◌then◌else◌, List, [], ◌∷◌, ◌++◌, length, Option, Some, None, is_some, Result, Ok, Err, refl, ap, sym, ◌∙◌, subst, arith}
+use Rattle.std.proofs.Common.{◌≡◌, ◌≢◌, ℕ, zero, suc, ◌≤◌, ◌<◌, Bool, true, false, if◌then◌else◌, List, [], ◌∷◌, ◌++◌, length, Option, Some, None, is_some, Result, Ok, Err, refl}
+use Rattle.std.proofs.Common.{ap, sym, ◌∙◌, subst, arith}
 use Rattle.st_ast.specs.declared.expressions.Expr.{Expr}
 use Rattle.st_ast.specs.declared.expressions.Expr.TheVariants as expr
 use Rattle.st_ast.specs.declared.operators.Op.{Op}
@@ -23,12 +24,14 @@ use Rattle.st_parse.proofs.ReaderLemmas.{Follows, follows_then, follows_map, sta
 use Rattle.st_parse.proofs.SortLemmas.{sort_means}
 use Rattle.st_parse.proofs.SoundLemmas.{Spelled, Sound, After, sound_pure, sound_weaken, sound_map, sound_take, sound_expect}
 use Rattle.st_parse.proofs.SoundExprs.{sound_field, sound_whole, sound_prefixed, sound_unary, sound_term, sound_sum, sound_cmp, sound_and, sound_or, sound_postfix, sound_binary}
-use Rattle.st_parse.proofs.WordLemmas.{separates, span, span_more, span_after, is_plain, Plain, plain_end, plain_more, plain_append, compared_plain, chained_plain, Words, expr_words, or_words, and_words, cmp_words, sum_words, term_words, unary_words, postfix_words}
+use Rattle.st_parse.proofs.WordLemmas.{separates, span, span_more, span_after, is_plain, Plain, plain_end, plain_more, plain_append, compared_plain, chained_plain, Words}
+use Rattle.st_parse.proofs.WordLemmas.{expr_words, or_words, and_words, cmp_words, sum_words, term_words, unary_words, postfix_words}
 
 -- ---- spans
 
 -- what is left has no longer span
-pub low : {A : Type 0} (P : List Terminal → A → Type 0) → ((ws : List Terminal) (x : A) → P ws x → Plain ws) → (ts : List Terminal) (o : Outcome A) (x : A) (us : List Terminal) → Sound P ts o → o ≡ Ok (x, us) → span us ≤ span ts
+pub low : {A : Type 0} (P : List Terminal → A → Type 0) → ((ws : List Terminal) (x : A) → P ws x → Plain ws) → (ts : List Terminal) (o : Outcome A) (x : A) (us : List Terminal)
+    → Sound P ts o → o ≡ Ok (x, us) → span us ≤ span ts
 low P plain ts o x us s e =
     let spelled : Spelled P ts x us = subst (λ (p : Outcome _). Sound P ts p) e s in
     let same : span ts ≡ span (spelled.front ++ us) = ap span spelled.split in
@@ -163,7 +166,8 @@ follows_shared ts = follows_expect sort.Shared _ ts _ (λ word us e h. follows_e
 
 -- ---- expressions, where those inside follow the chart
 
-literal_at : (s : Sort) (ts : List Terminal) (f : Terminal → Expr) → next_sort ts ≡ s → same_sort s sort.Other ≡ false → chosen chart.primary s ≡ Some (token s ∷ []) → Follows (part chart.primary ∷ []) ts ((f <$> take_any) ts)
+literal_at : (s : Sort) (ts : List Terminal) (f : Terminal → Expr) → next_sort ts ≡ s → same_sort s sort.Other ≡ false → chosen chart.primary s ≡ Some (token s ∷ [])
+    → Follows (part chart.primary ∷ []) ts ((f <$> take_any) ts)
 literal_at s ts f e n c = follows_part chart.primary (token s ∷ []) ts ((f <$> take_any) ts) (ap (chosen chart.primary) e ∙ c) (follows_take s [] ts (λ t. pure (f t)) e n (λ t us g h. stays us))
 
 literal_by : (s : Sort) (ts : List Terminal) → next_sort ts ≡ s → s ≢ sort.Name → s ≢ sort.Shared → s ≢ sort.OpenParen → Follows (part chart.primary ∷ []) ts (r.literal_by s ts)
@@ -187,12 +191,14 @@ args_choice s e = told_no (same_sort s sort.CloseParen) _ _ e
 comma_ends : (s : Sort) → is_sort sort.Comma s ≡ false → chosen chart.args_tail s ≡ Some []
 comma_ends s e = told_no (same_sort s sort.Comma) _ _ e
 
-args_facts : (chosen chart.args sort.CloseParen ≡ Some []) × (chosen chart.args_tail sort.Comma ≡ Some (token sort.Comma ∷ part chart.expr ∷ part chart.args_tail ∷ [])) × (chosen chart.args_tail sort.Other ≡ Some [])
+args_facts : (chosen chart.args sort.CloseParen ≡ Some []) × (chosen chart.args_tail sort.Comma ≡ Some (token sort.Comma ∷ part chart.expr ∷ part chart.args_tail ∷ []))
+    × (chosen chart.args_tail sort.Other ≡ Some [])
 unfolding same_sort
 args_facts = (refl, refl, refl)
 
 -- [ args ] ")"
-pub follows_args : (W : List Terminal → Type 0) (whole : Reader Expr) → ((ts : List Terminal) → W ts → Follows (part chart.expr ∷ []) ts (whole ts)) → ((ts : List Terminal) → Sound IsExpr ts (whole ts))
+pub follows_args : (W : List Terminal → Type 0) (whole : Reader Expr) → ((ts : List Terminal) → W ts → Follows (part chart.expr ∷ []) ts (whole ts))
+    → ((ts : List Terminal) → Sound IsExpr ts (whole ts))
     → ((ws us : List Terminal) → Plain ws → W (ws ++ us) → W us) → (ts : List Terminal) → W ts → Follows (part chart.args ∷ token sort.CloseParen ∷ []) ts (enclosed (listed whole) ts)
 follows_args W whole reads sound onward =
     follows_enclosed whole IsExpr W chart.args chart.expr chart.args_tail reads sound (λ ws x h. (expr_words h).plain) onward args_facts.0 args_choice args_facts.1 comma_ends args_facts.2
@@ -200,11 +206,13 @@ follows_args W whole reads sound onward =
 module _ (d : ℕ) (whole : (ts : List Terminal) → span ts < d → Follows (part chart.expr ∷ []) ts (r.nested d level.Whole ts))
     (prefixed : (ts : List Terminal) → span ts < d → Follows (part chart.unary ∷ []) ts (r.nested d level.Prefixed ts)) where
   call_at : (name : Terminal) (us : List Terminal) (b : Bool) → sees sort.OpenParen us ≡ b → span us < d
-      → Follows (part chart.call_tail ∷ []) us ((if b then (expect sort.OpenParen >> (λ found. expr.Call name.bytes found name.site) <$> r.args (r.nested d)) else pure (expr.Local name.bytes name.site)) us)
+      → Follows (part chart.call_tail ∷ []) us ((if b then (expect sort.OpenParen >> (λ found. expr.Call name.bytes found name.site) <$> r.args (r.nested d)) else pure
+      (expr.Local name.bytes name.site)) us)
   unfolding sees r.args
   call_at name us false e w = stays_part chart.call_tail us (told_no (same_sort (next_sort us) sort.OpenParen) _ _ e)
   call_at name us true e w =
-      follows_part {A = Expr} chart.call_tail (token sort.OpenParen ∷ part chart.args ∷ token sort.CloseParen ∷ []) us ((expect sort.OpenParen >> (λ found. expr.Call name.bytes found name.site) <$> r.args (r.nested d)) us) (told_yes (same_sort (next_sort us) sort.OpenParen) _ _ e)
+      follows_part {A = Expr} chart.call_tail (token sort.OpenParen ∷ part chart.args ∷ token sort.CloseParen ∷ []) us
+      ((expect sort.OpenParen >> (λ found. expr.Call name.bytes found name.site) <$> r.args (r.nested d)) us) (told_yes (same_sort (next_sort us) sort.OpenParen) _ _ e)
       (follows_expect sort.OpenParen (part chart.args ∷ token sort.CloseParen ∷ []) us _ (λ opening vs f h.
       follows_map (part chart.args ∷ token sort.CloseParen ∷ []) vs (enclosed (listed (r.nested d level.Whole)) vs) (λ found. expr.Call name.bytes found name.site)
       (follows_args (λ l. span l < d) (r.nested d level.Whole) whole (sound_whole d) (λ ws rest p x. omega (arith, span_after p rest)) vs (omega (arith, next_span us opening vs f h refl)))))
@@ -223,7 +231,8 @@ module _ (d : ℕ) (whole : (ts : List Terminal) → span ts < d → Follows (pa
   unfolding same_sort
   primary_at sort.Name ts e w = follows_part chart.primary (token sort.Name ∷ part chart.call_tail ∷ []) ts (r.named (r.nested d) ts) (ap (chosen chart.primary) e) (follows_named ts w)
   primary_at sort.Shared ts e w = follows_part chart.primary (token sort.Shared ∷ token sort.Dot ∷ token sort.Name ∷ []) ts (r.shared_field ts) (ap (chosen chart.primary) e) (follows_shared ts)
-  primary_at sort.OpenParen ts e w = follows_part chart.primary (token sort.OpenParen ∷ part chart.expr ∷ token sort.CloseParen ∷ []) ts (r.paren (r.nested d) ts) (ap (chosen chart.primary) e) (follows_paren ts w)
+  primary_at sort.OpenParen ts e w = follows_part chart.primary (token sort.OpenParen ∷ part chart.expr ∷ token sort.CloseParen ∷ []) ts (r.paren (r.nested d) ts)
+      (ap (chosen chart.primary) e) (follows_paren ts w)
   primary_at s ts e w = follows_literal s ts e (λ x. cc) (λ x. cc) (λ x. cc)
 
   follows_primary : (ts : List Terminal) → span ts ≤ d → Follows (part chart.primary ∷ []) ts (r.primary (r.nested d) ts)
@@ -242,9 +251,11 @@ module _ (d : ℕ) (whole : (ts : List Terminal) → span ts < d → Follows (pa
 
   unary_at : (s : Sort) (ts : List Terminal) → next_sort ts ≡ s → span ts ≤ d → Follows (part chart.unary ∷ []) ts (r.unary_by (r.nested d) s ts)
   unfolding same_sort
-  unary_at sort.Not ts e w = follows_part chart.unary (token sort.Not ∷ part chart.unary ∷ []) ts (r.unary_by (r.nested d) sort.Not ts) (ap (chosen chart.unary) e) (sign_and_unary sort.Not (λ x t. expr.Not x t.site) ts e refl refl w)
+  unary_at sort.Not ts e w = follows_part chart.unary (token sort.Not ∷ part chart.unary ∷ []) ts (r.unary_by (r.nested d) sort.Not ts) (ap (chosen chart.unary) e)
+      (sign_and_unary sort.Not (λ x t. expr.Not x t.site) ts e refl refl w)
   unary_at sort.Minus ts e w =
-      follows_part chart.unary (token sort.Minus ∷ part chart.unary ∷ []) ts (r.unary_by (r.nested d) sort.Minus ts) (ap (chosen chart.unary) e) (sign_and_unary sort.Minus (λ x t. expr.Minus x t.site) ts e refl refl w)
+      follows_part chart.unary (token sort.Minus ∷ part chart.unary ∷ []) ts (r.unary_by (r.nested d) sort.Minus ts) (ap (chosen chart.unary) e)
+      (sign_and_unary sort.Minus (λ x t. expr.Minus x t.site) ts e refl refl w)
   unary_at s ts e w = follows_part chart.unary (part chart.postfix ∷ []) ts (r.postfix (r.nested d) ts) (ap (chosen chart.unary) e) (follows_postfix ts w)
 
   follows_unary : (ts : List Terminal) → span ts ≤ d → Follows (part chart.unary ∷ []) ts (r.unary (r.nested d) ts)
@@ -252,11 +263,13 @@ module _ (d : ℕ) (whole : (ts : List Terminal) → span ts < d → Follows (pa
   follows_unary ts w = unary_at (next_sort ts) ts refl w
 
   -- chains
-  link_reads : (c : Chain) (operand : Reader Expr) → ((ts : List Terminal) → span ts ≤ d → Follows (part (operand_of c) ∷ []) ts (operand ts)) → (left : Expr) (t : Terminal) (ts : List Terminal) (o : Option Op)
+  link_reads : (c : Chain) (operand : Reader Expr) → ((ts : List Terminal) → span ts ≤ d → Follows (part (operand_of c) ∷ []) ts (operand ts))
+      → (left : Expr) (t : Terminal) (ts : List Terminal) (o : Option Op)
       → chained c t.sort ≡ o → is_some o ≡ true → span (t ∷ ts) ≤ d → Follows (token t.sort ∷ part (operand_of c) ∷ []) (t ∷ ts) (r.binary (r.nested d) operand left o (t ∷ ts))
   link_reads c operand reads left t ts None e s w = absurd cc
   link_reads c operand reads left t ts (Some op) e s w = follows_take t.sort (part (operand_of c) ∷ []) (t ∷ ts) _ refl (chained_other c t.sort op e)
-      (λ mark us g h. follows_map (part (operand_of c) ∷ []) us (operand us) (λ right. expr.Binary op left right mark.site) (reads us (omega (arith, next_span (t ∷ ts) mark us g h (chained_plain c t.sort op e)))))
+      (λ mark us g h. follows_map (part (operand_of c) ∷ []) us (operand us) (λ right. expr.Binary op left right mark.site)
+      (reads us (omega (arith, next_span (t ∷ ts) mark us g h (chained_plain c t.sort op e)))))
 
   link_sound : (c : Chain) (operand : Reader Expr) (P : List Terminal → Expr → Type 0) → ((ts : List Terminal) → Sound P ts (operand ts)) → ((ws : List Terminal) (x : Expr) → P ws x → Plain ws)
       → (left : Expr) (t : Terminal) (ts : List Terminal) → Sound (λ ws y. Used Plain ws) (t ∷ ts) (r.link (r.nested d) c operand left (t ∷ ts))
@@ -281,7 +294,8 @@ module _ (d : ℕ) (whole : (ts : List Terminal) → span ts < d → Follows (pa
   chain_nothing chain.Product = refl
 
   follows_linked : (c : Chain) (operand : Reader Expr) (P : List Terminal → Expr → Type 0) → ((ts : List Terminal) → Sound P ts (operand ts)) → ((ws : List Terminal) (x : Expr) → P ws x → Plain ws)
-      → ((ts : List Terminal) → span ts ≤ d → Follows (part (operand_of c) ∷ []) ts (operand ts)) → (ts : List Terminal) → span ts ≤ d → Follows (part (whole_of c) ∷ []) ts (r.linked (r.nested d) c operand ts)
+      → ((ts : List Terminal) → span ts ≤ d → Follows (part (operand_of c) ∷ []) ts (operand ts)) → (ts : List Terminal) → span ts ≤ d → Follows (part (whole_of c) ∷ []) ts
+      (r.linked (r.nested d) c operand ts)
   unfolding r.linked r.link
   follows_linked c operand P sound plain reads ts w =
       follows_part (whole_of c) (part (operand_of c) ∷ part (tail_of c) ∷ []) ts (r.linked (r.nested d) c operand ts) (chain_begins c (next_sort ts))
@@ -301,7 +315,8 @@ module _ (d : ℕ) (whole : (ts : List Terminal) → span ts < d → Follows (pa
 
   compare : (left : Expr) (ts : List Terminal) (o : Option Op) → compared (next_sort ts) ≡ o → span ts ≤ d → Follows (part chart.cmp_tail ∷ []) ts (r.cmp_after (r.nested d) left o ts)
   compare left ts None e w = stays_part chart.cmp_tail ts (comparison_ends (next_sort ts) e)
-  compare left ts (Some op) e w = follows_part chart.cmp_tail (token (next_sort ts) ∷ part chart.sum ∷ []) ts (r.binary (r.nested d) (r.sum (r.nested d)) left (Some op) ts) (comparison_goes_on (next_sort ts) op e)
+  compare left ts (Some op) e w = follows_part chart.cmp_tail (token (next_sort ts) ∷ part chart.sum ∷ []) ts (r.binary (r.nested d) (r.sum (r.nested d)) left (Some op) ts)
+      (comparison_goes_on (next_sort ts) op e)
       (follows_take (next_sort ts) (part chart.sum ∷ []) ts _ refl (compared_other (next_sort ts) op e)
       (λ mark us g h. follows_map (part chart.sum ∷ []) us (r.sum (r.nested d) us) (λ right. expr.Binary op left right mark.site)
       (follows_sum us (omega (arith, next_span ts mark us g h (compared_plain (next_sort ts) op e))))))
@@ -321,11 +336,13 @@ module _ (d : ℕ) (whole : (ts : List Terminal) → span ts < d → Follows (pa
   unfolding r.or
   follows_or = follows_linked chain.Either (r.and (r.nested d)) IsAnd (sound_and (r.nested d) (sound_whole d) (sound_prefixed d)) (λ ws x h. (and_words h).plain) follows_and
 
-  branches_at : (test : Expr) (ts : List Terminal) (b : Bool) → sees sort.Question ts ≡ b → span ts ≤ d → Follows (part chart.cond_tail ∷ []) ts ((if b then r.branches (r.nested d) test else pure test) ts)
+  branches_at : (test : Expr) (ts : List Terminal) (b : Bool) → sees sort.Question ts ≡ b → span ts ≤ d
+      → Follows (part chart.cond_tail ∷ []) ts ((if b then r.branches (r.nested d) test else pure test) ts)
   unfolding sees r.branches
   branches_at test ts false e w = stays_part chart.cond_tail ts (told_no (same_sort (next_sort ts) sort.Question) _ _ e)
   branches_at test ts true e w =
-      follows_part chart.cond_tail (token sort.Question ∷ part chart.expr ∷ token sort.Colon ∷ part chart.expr ∷ []) ts (r.branches (r.nested d) test ts) (told_yes (same_sort (next_sort ts) sort.Question) _ _ e)
+      follows_part chart.cond_tail (token sort.Question ∷ part chart.expr ∷ token sort.Colon ∷ part chart.expr ∷ []) ts (r.branches (r.nested d) test ts)
+      (told_yes (same_sort (next_sort ts) sort.Question) _ _ e)
       (follows_expect sort.Question (part chart.expr ∷ token sort.Colon ∷ part chart.expr ∷ []) ts _ (λ question us g h.
       let one : span us < d = omega (arith, next_span ts question us g h refl) in
       follows_then (part chart.expr ∷ []) (token sort.Colon ∷ part chart.expr ∷ []) us (r.nested d level.Whole us) _ (whole us one) (λ left vs k.
@@ -337,7 +354,8 @@ module _ (d : ℕ) (whole : (ts : List Terminal) → span ts < d → Follows (pa
   unfolding r.choice
   follows_choice ts w = follows_part chart.expr (part chart.or ∷ part chart.cond_tail ∷ []) ts (r.choice (r.nested d) ts) refl
       (follows_then (part chart.or ∷ []) (part chart.cond_tail ∷ []) ts (r.or (r.nested d) ts) _ (follows_or ts w)
-      (λ test us e. branches_at test us (sees sort.Question us) refl (omega (arith, low IsOr (λ ws x h. (or_words h).plain) ts (r.or (r.nested d) ts) test us (sound_or (r.nested d) (sound_whole d) (sound_prefixed d) ts) e))))
+      (λ test us e. branches_at test us (sees sort.Question us) refl
+      (omega (arith, low IsOr (λ ws x h. (or_words h).plain) ts (r.or (r.nested d) ts) test us (sound_or (r.nested d) (sound_whole d) (sound_prefixed d) ts) e))))
 
 -- ---- expressions
 

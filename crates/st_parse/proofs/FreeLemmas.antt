@@ -45,7 +45,10 @@ abbrev B : ℕ
 B = MOST_OPEN_BRACES
 
 block_of_same : (ib : Reader (List Stmt)) → r.block_of ib ≡ free.block_of M B ib
-unfolding r.block_of free.block_of r.statement free.statement r.if_stmt free.if_stmt r.while_stmt free.while_stmt r.else_part free.else_part r.condition free.condition r.check_stmt free.check_stmt r.shared_stmt free.shared_stmt r.named_stmt free.named_stmt r.call_after free.call_after r.put_after free.put_after r.var_stmt free.var_stmt r.assigned free.assigned r.value_here free.value_here r.cas_value free.cas_value r.whole free.whole
+unfolding r.block_of free.block_of r.statement free.statement r.if_stmt free.if_stmt r.while_stmt free.while_stmt r.else_part free.else_part
+    r.condition free.condition r.check_stmt free.check_stmt r.shared_stmt free.shared_stmt r.named_stmt free.named_stmt r.call_after free.call_after
+    r.put_after free.put_after r.var_stmt free.var_stmt r.assigned free.assigned r.value_here free.value_here r.cas_value free.cas_value r.whole
+    free.whole
 block_of_same ib = refl
 
 blocks_same : (d : ℕ) → r.blocks d ≡ free.blocks M B d
@@ -96,4 +99,5 @@ program_with pred proc thread = do
 
 pub program_same : r.program ≡ free.program MOST_TOKENS_BETWEEN MOST_OPEN_BRACES
 unfolding r.program free.program program_with
-program_same = ap (λ (p : Reader Pred). program_with p r.proc r.thread) pred_same ∙ ap (λ (p : Reader Proc). program_with (free.pred M B) p r.thread) proc_same ∙ ap (program_with (free.pred M B) (free.proc M B)) thread_same
+program_same = ap (λ (p : Reader Pred). program_with p r.proc r.thread) pred_same ∙ ap (λ (p : Reader Proc). program_with (free.pred M B) p r.thread) proc_same ∙ ap
+    (program_with (free.pred M B) (free.proc M B)) thread_same

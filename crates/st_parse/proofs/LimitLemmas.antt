@@ -82,7 +82,8 @@ pub value_plain : {ts : List Terminal} {v : Value} → IsValue ts v → Plain ts
 value_plain (g.of_expr h) = (expr_words h).plain
 value_plain (g.new w n) = plain_more (is_plain refl w) (plain_more (is_plain refl n) plain_end)
 value_plain (g.cas w o p c h d k e) =
-    plain_append (plain_append (plain_append (plain_more (is_plain refl w) (plain_more (is_plain refl o) (place_plain p))) (plain_more (is_plain refl c) (expr_words h).plain)) (plain_more (is_plain refl d) (expr_words k).plain))
+    plain_append (plain_append (plain_append (plain_more (is_plain refl w) (plain_more (is_plain refl o) (place_plain p))) (plain_more (is_plain refl c) (expr_words h).plain))
+    (plain_more (is_plain refl d) (expr_words k).plain))
     (plain_more (is_plain refl e) plain_end)
 
 -- ---- statements
@@ -126,14 +127,17 @@ stmt_begins (g.check w h s) = begins_with _ refl w
 mutual
   pub stmt_even : {ts : List Terminal} {s : Stmt} → IsStmt ts s → Even ts
   stmt_even (g.var w n c t a v s) =
-      even_append (even_plain (plain_append (plain_more (is_plain refl w) (plain_more (is_plain refl n) (plain_more (is_plain refl c) (type_plain t)))) (plain_more (is_plain refl a) (value_plain v)))) (even_semicolon s even_end)
+      even_append (even_plain (plain_append (plain_more (is_plain refl w) (plain_more (is_plain refl n) (plain_more (is_plain refl c) (type_plain t))))
+      (plain_more (is_plain refl a) (value_plain v)))) (even_semicolon s even_end)
   stmt_even (g.assigned n a v s) = even_append (even_plain (plain_more (is_plain refl n) (plain_more (is_plain refl a) (value_plain v)))) (even_semicolon s even_end)
   stmt_even (g.put p a v s) = even_append (even_plain (plain_append (place_plain p) (plain_more (is_plain refl a) (value_plain v)))) (even_semicolon s even_end)
   stmt_even (g.if_then w o h c b e) =
-      even_append (even_append (even_plain (plain_more (is_plain refl w) (plain_more (is_plain refl o) (expr_words h).plain))) (even_append (even_plain (plain_more (is_plain refl c) plain_end)) (block_even b))) (else_even e)
+      even_append (even_append (even_plain (plain_more (is_plain refl w) (plain_more (is_plain refl o) (expr_words h).plain)))
+      (even_append (even_plain (plain_more (is_plain refl c) plain_end)) (block_even b))) (else_even e)
   stmt_even (g.while_do w o h c b) =
       even_append (even_plain (plain_more (is_plain refl w) (plain_more (is_plain refl o) (expr_words h).plain))) (even_append (even_plain (plain_more (is_plain refl c) plain_end)) (block_even b))
-  stmt_even (g.called n o a c s) = even_append (even_plain (plain_more (is_plain refl n) (plain_more (is_plain refl o) (args_plain a)))) (even_append (even_plain (plain_more (is_plain refl c) plain_end)) (even_semicolon s even_end))
+  stmt_even (g.called n o a c s) = even_append (even_plain (plain_more (is_plain refl n) (plain_more (is_plain refl o) (args_plain a))))
+      (even_append (even_plain (plain_more (is_plain refl c) plain_end)) (even_semicolon s even_end))
   stmt_even (g.check w h s) = even_append (even_plain (plain_more (is_plain refl w) (expr_words h).plain)) (even_semicolon s even_end)
 
   pub else_even : {ts : List Terminal} {b : Option (List Stmt)} → IsElse ts b → Even ts

@@ -1,5 +1,6 @@
 -- Readers and the chart: what each reads, and where it stops.
-use Rattle.std.proofs.Common.{◌≡◌, ℕ, zero, suc, ◌+◌, ◌≤◌, ◌<◌, Bool, true, false, cond, ◌||◌, if◌then◌else◌, nat_lt, List, [], ◌∷◌, ◌++◌, length, Option, Some, None, Result, Ok, Err, refl, ap, sym, ◌∙◌, subst, arith, length-append}
+use Rattle.std.proofs.Common.{◌≡◌, ℕ, zero, suc, ◌+◌, ◌≤◌, ◌<◌, Bool, true, false, cond, ◌||◌, if◌then◌else◌, nat_lt, List, [], ◌∷◌, ◌++◌, length, Option, Some, None, Result, Ok}
+use Rattle.std.proofs.Common.{Err, refl, ap, sym, ◌∙◌, subst, arith, length-append}
 use Rattle.std.proofs.lemmas.Bool.{lt-ltb}
 use Rattle.st_parse.specs.declared.sorts.Sort.{Sort}
 use Rattle.st_parse.specs.declared.sorts.Sort.TheVariants as sort
@@ -63,14 +64,14 @@ follows_take s ds (t ∷ ts) f e n h =
 
 -- the choice of a part that the next sort tells
 pub follows_part : {A : Type 0} (n : Part) (c : Symbols) (ts : List Terminal) (o : Outcome A) → chosen n (next_sort ts) ≡ Some c → Follows c ts o → Follows (part n ∷ []) ts o
-follows_part n c ts o e h = reads_part grammar n c ts o (ap (choice_at grammar n) (at_next ts) ∙ e) h
+follows_part n c ts o e h = reads_part grammar n c ts o (at_next n ts ∙ e) h
 
 pub follows_none : (n : Part) (ts : List Terminal) → chosen n (next_sort ts) ≡ None → Stops grammar (part n ∷ []) ts ts
-follows_none n ts e = stops_stuck grammar n ts (ap (choice_at grammar n) (at_next ts) ∙ e)
+follows_none n ts e = stops_stuck grammar n ts (at_next n ts ∙ e)
 
 -- the choice of nothing
 pub stays_part : (n : Part) (ts : List Terminal) → chosen n (next_sort ts) ≡ Some [] → Goes grammar (part n ∷ []) ts ts
-stays_part n ts e = let h : Goes grammar [] ts ts = stays ts in record { shorter = omega arith; on = λ ss o f. goes (ap (choice_at grammar n) (at_next ts) ∙ e) f }
+stays_part n ts e = let h : Goes grammar [] ts ts = stays ts in record { shorter = omega arith; on = λ ss o f. goes (at_next n ts ∙ e) f }
 
 -- ---- loops
 

@@ -1,5 +1,6 @@
 -- What is read as an expression is spelled so.
-use Rattle.std.proofs.Common.{◌≡◌, ℕ, zero, suc, Bool, true, false, not, if◌then◌else◌, List, [], ◌∷◌, ◌++◌, length, Option, Some, None, is_some, Result, Ok, Err, refl, sym, ap, subst, ◌∙◌, append_assoc, append-nil}
+use Rattle.std.proofs.Common.{◌≡◌, ℕ, zero, suc, Bool, true, false, not, if◌then◌else◌, List, [], ◌∷◌, ◌++◌, length, Option, Some, None, is_some, Result, Ok, Err, refl, sym, ap}
+use Rattle.std.proofs.Common.{subst, ◌∙◌, append_assoc, append-nil}
 use Rattle.st_ast.specs.declared.expressions.Expr.{Expr}
 use Rattle.st_ast.specs.declared.expressions.Expr.TheVariants as expr
 use Rattle.st_ast.specs.declared.operators.Op.{Op}
@@ -22,7 +23,8 @@ use Rattle.st_parse.proofs.SoundLists.{exprs_more, sound_listed, sound_enclosed}
 
 -- a dot and a name
 module _ (P : List Terminal → Expr → Type 0)
-    (field : (front : List Terminal) (dot name : Terminal) (object : Expr) → P front object → Is sort.Dot dot → Is sort.Name name → P (front ++ dot ∷ name ∷ []) (expr.Field object name.bytes dot.site)) where
+    (field : (front : List Terminal) (dot name : Terminal) (object : Expr) → P front object → Is sort.Dot dot → Is sort.Name name → P (front ++ dot ∷ name ∷ [])
+    (expr.Field object name.bytes dot.site)) where
   pub sound_field : (front us : List Terminal) (object : Expr) → P front object → Sound (After front P) us (r.field_after object us)
   unfolding r.field_after
   sound_field front us object p = sound_expect sort.Dot (After front P) us _ (λ dot vs is_dot. sound_expect sort.Name (After (dot ∷ []) (After front P)) vs _
@@ -32,10 +34,12 @@ module _ (P : List Terminal → Expr → Type 0)
   unfolding r.fields_after
   sound_fields front us object p = sound_turns (is_sort sort.Dot) r.field_after P sound_field front us object p
 
-pub sound_shared : (P : List Terminal → Expr → Type 0) → ((shared dot name : Terminal) → Is sort.Shared shared → Is sort.Dot dot → Is sort.Name name → P (shared ∷ dot ∷ name ∷ []) (expr.Shared name.bytes dot.site))
+pub sound_shared : (P : List Terminal → Expr → Type 0) → ((shared dot name : Terminal) → Is sort.Shared shared → Is sort.Dot dot → Is sort.Name name
+    → P (shared ∷ dot ∷ name ∷ []) (expr.Shared name.bytes dot.site))
     → (ts : List Terminal) → Sound P ts (r.shared_field ts)
 unfolding r.shared_field
-sound_shared P h ts = sound_expect sort.Shared P ts _ (λ shared us is_shared. sound_expect sort.Dot _ us _ (λ dot vs is_dot. sound_expect sort.Name _ vs _ (λ name ws is_name. sound_pure _ ws _ (h shared dot name is_shared is_dot is_name))))
+sound_shared P h ts = sound_expect sort.Shared P ts _ (λ shared us is_shared. sound_expect sort.Dot _ us _
+    (λ dot vs is_dot. sound_expect sort.Name _ vs _ (λ name ws is_name. sound_pure _ ws _ (h shared dot name is_shared is_dot is_name))))
 
 place_fields : (front us : List Terminal) (object : Expr) → IsPlace front object → Sound (After front IsPlace) us (r.fields_after object us)
 place_fields = sound_fields IsPlace (λ front dot name object p d n. g.of_field p d n)
@@ -47,7 +51,8 @@ local_field name us n = sound_expect sort.Dot (After (name ∷ []) IsPlace) us _
 pub sound_place_after : (name : Terminal) (us : List Terminal) → Is sort.Name name → Sound (After (name ∷ []) IsPlace) us (r.place_after name us)
 unfolding r.place_after
 sound_place_after name us n =
-    sound_then (After (name ∷ []) IsPlace) (After (name ∷ []) IsPlace) us (r.field_after (expr.Local name.bytes name.site) us) r.fields_after (local_field name us n) (λ front vs object p. place_fields (name ∷ front) vs object p)
+    sound_then (After (name ∷ []) IsPlace) (After (name ∷ []) IsPlace) us (r.field_after (expr.Local name.bytes name.site) us) r.fields_after (local_field name us n)
+    (λ front vs object p. place_fields (name ∷ front) vs object p)
 
 place_at : (s : Sort) (ts : List Terminal) → Sound IsPlace ts (r.place_by s ts)
 place_at sort.Shared ts = sound_then IsPlace IsPlace ts (r.shared_field ts) r.fields_after (sound_shared IsPlace (λ shared dot name a b c. g.of_shared a b c) ts) place_fields
@@ -73,7 +78,8 @@ sound_literal ts = literal_at (next_sort ts) ts refl
 
 -- ---- expressions, where those inside are read well
 
-module _ (inner : Level → Reader Expr) (whole_reads : (ts : List Terminal) → Sound IsExpr ts (inner level.Whole ts)) (prefixed_reads : (ts : List Terminal) → Sound IsUnary ts (inner level.Prefixed ts)) where
+module _ (inner : Level → Reader Expr) (whole_reads : (ts : List Terminal) → Sound IsExpr ts (inner level.Whole ts))
+    (prefixed_reads : (ts : List Terminal) → Sound IsUnary ts (inner level.Prefixed ts)) where
   -- the rest of a call after `(`
   pub sound_args : (R : List Terminal → List Expr → Type 0) → ((ts : List Terminal) (closing : Terminal) (xs : List Expr) → AreArgs ts xs → Is sort.CloseParen closing → R (ts ++ closing ∷ []) xs)
       → (ts : List Terminal) → Sound R ts (r.args inner ts)

@@ -1,9 +1,11 @@
 -- What is read is spelled: readers put together.
-use Rattle.std.proofs.Common.{◌≡◌, ℕ, zero, suc, Bool, true, false, not, if◌then◌else◌, nat_lt, List, [], ◌∷◌, ◌++◌, length, Option, Some, None, is_some, Result, Ok, Err, refl, sym, ap, subst, ◌∙◌, append_assoc, append-nil}
+use Rattle.std.proofs.Common.{◌≡◌, ℕ, zero, suc, Bool, true, false, not, if◌then◌else◌, nat_lt, List, [], ◌∷◌, ◌++◌, length, Option, Some, None, is_some, Result, Ok, Err, refl}
+use Rattle.std.proofs.Common.{sym, ap, subst, ◌∙◌, append_assoc, append-nil}
 use Rattle.st_parse.specs.declared.sorts.Sort.{Sort}
 use Rattle.st_parse.specs.Sorts.{same_sort}
 use Rattle.st_parse.specs.Terminals.{Terminal, Is, next_sort}
-use Rattle.st_parse.specs.Reading.{Outcome, Reader, and_then, ◌>>=◌, ◌>>◌, pure, ◌<$>◌, refuse, peek, sees, see, take_any, expect, if_shorter, turns_from, turns, one_more, many, is_sort, listed, enclosed}
+use Rattle.st_parse.specs.Reading.{Outcome, Reader, and_then, ◌>>=◌, ◌>>◌, pure, ◌<$>◌, refuse, peek, sees, see, take_any, expect, if_shorter, turns_from, turns, one_more, many}
+use Rattle.st_parse.specs.Reading.{is_sort, listed, enclosed}
 use Rattle.st_parse.proofs.SortLemmas.{sort_means}
 
 -- the front of the terminals spells what was read

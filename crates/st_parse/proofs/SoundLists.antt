@@ -26,14 +26,16 @@ listed_more P comma us x c p (last q) = next q c (last p)
 listed_more P comma us x c p (next {ts = ts} {us = vs} {comma = d} {item = y} {items = ys} q e h) =
     subst (λ (l : List Terminal). AreListed P l (y ∷ ys ++ x ∷ [])) (sym (append_assoc ts (d ∷ vs) (comma ∷ us))) (next q e (listed_more P comma us x c p h))
 
-pub exprs_more : (comma : Terminal) (us : List Terminal) (x : Expr) → Is sort.Comma comma → IsExpr us x → {ts : List Terminal} {xs : List Expr} → AreExprs ts xs → AreExprs (ts ++ comma ∷ us) (xs ++ x ∷ [])
+pub exprs_more : (comma : Terminal) (us : List Terminal) (x : Expr) → Is sort.Comma comma → IsExpr us x → {ts : List Terminal} {xs : List Expr} → AreExprs ts xs
+    → AreExprs (ts ++ comma ∷ us) (xs ++ x ∷ [])
 exprs_more comma us x c p (last_expr q) = next_expr q c (last_expr p)
 exprs_more comma us x c p (next_expr {ts = ts} {us = vs} {comma = d} {e = y} {es = ys} q e h) =
     subst (λ (l : List Terminal). AreExprs l (y ∷ ys ++ x ∷ [])) (sym (append_assoc ts (d ∷ vs) (comma ∷ us))) (next_expr q e (exprs_more comma us x c p h))
 
 module _ {A : Type 0} (item : Reader A) (P : List Terminal → A → Type 0) (reads : (ts : List Terminal) → Sound P ts (item ts)) (L : List Terminal → List A → Type 0) where
   -- { item }
-  pub sound_many : (asks : Sort → Bool) → L [] [] → ((ts us : List Terminal) (xs : List A) (x : A) → L ts xs → P us x → L (ts ++ us) (xs ++ x ∷ [])) → (ts : List Terminal) → Sound L ts (many asks item ts)
+  pub sound_many : (asks : Sort → Bool) → L [] [] → ((ts us : List Terminal) (xs : List A) (x : A) → L ts xs → P us x → L (ts ++ us) (xs ++ x ∷ [])) → (ts : List Terminal)
+      → Sound L ts (many asks item ts)
   unfolding many
   sound_many asks start on ts =
       sound_turns asks (one_more item) L (λ front us xs h. sound_map P (After front L) us (item us) (λ x. xs ++ x ∷ []) (reads us) (λ vs x p. on front vs xs x h p)) [] ts [] start
@@ -47,11 +49,13 @@ module _ {A : Type 0} (item : Reader A) (P : List Terminal → A → Type 0) (re
     is_item : P words x
 
   pub sound_listed : ((ts : List Terminal) (x : A) → P ts x → L ts (x ∷ []))
-      → ((ts us : List Terminal) (comma : Terminal) (xs : List A) (x : A) → L ts xs → Is sort.Comma comma → P us x → L (ts ++ comma ∷ us) (xs ++ x ∷ [])) → (ts : List Terminal) → Sound L ts (listed item ts)
+      → ((ts us : List Terminal) (comma : Terminal) (xs : List A) (x : A) → L ts xs → Is sort.Comma comma → P us x → L (ts ++ comma ∷ us) (xs ++ x ∷ [])) → (ts : List Terminal) → Sound L ts
+      (listed item ts)
   unfolding listed
   sound_listed first on ts =
       sound_then P L ts (item ts) (λ x. turns (is_sort sort.Comma) (one_more (expect sort.Comma >> item)) (x ∷ [])) (reads ts)
-      (λ front us x p. sound_turns (is_sort sort.Comma) (one_more (expect sort.Comma >> item)) L (λ before vs xs h. sound_map AfterComma (After before L) vs (and_then (expect sort.Comma vs) (λ c. item)) (λ y. xs ++ y ∷ [])
+      (λ front us x p. sound_turns (is_sort sort.Comma) (one_more (expect sort.Comma >> item)) L
+      (λ before vs xs h. sound_map AfterComma (After before L) vs (and_then (expect sort.Comma vs) (λ c. item)) (λ y. xs ++ y ∷ [])
       (sound_expect sort.Comma AfterComma vs (λ c. item) (λ c ws is_comma. sound_weaken P (After (c ∷ []) AfterComma) ws (item ws) (reads ws)
       (λ words y q. record { comma = c; words = words; split = refl; is_comma = is_comma; is_item = q })))
       (λ words y q. subst (λ (l : List Terminal). L (before ++ l) (xs ++ y ∷ [])) q.split (on before q.words q.comma xs y h q.is_comma q.is_item))) front us (x ∷ []) (first front x p))

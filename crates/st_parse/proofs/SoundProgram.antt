@@ -24,9 +24,11 @@ use Rattle.st_parse.proofs.Free as free
 module _ (tokens braces : ℕ) where
   pub sound_field : (ts : List Terminal) → Sound IsField ts (r.field ts)
   unfolding r.field
-  sound_field ts = sound_expect sort.Name IsField ts _ (λ name us n. sound_then (AfterSign tokens braces sort.Colon IsType) (After (name ∷ []) IsField) us (r.typed us) _ (sound_typed tokens braces us) (λ front vs kind t.
+  sound_field ts = sound_expect sort.Name IsField ts _ (λ name us n. sound_then (AfterSign tokens braces sort.Colon IsType) (After (name ∷ []) IsField) us (r.typed us) _
+      (sound_typed tokens braces us) (λ front vs kind t.
       sound_expect sort.Semicolon (λ l x. IsField (name ∷ (front ++ l)) x) vs _ (λ semicolon ws s.
-      sound_pure _ ws _ (subst (λ (l : List Terminal). IsField (name ∷ (l ++ semicolon ∷ [])) (record { name = name.bytes; kind = kind; site = name.site })) t.split (g.field n t.is_sign t.spelled s)))))
+      sound_pure _ ws _ (subst (λ (l : List Terminal). IsField (name ∷ (l ++ semicolon ∷ [])) (record { name = name.bytes; kind = kind; site = name.site })) t.split
+      (g.field n t.is_sign t.spelled s)))))
 
   -- "{" { field } "}"
   pub record InBraces (ts : List Terminal) (fields : List Field) : Type 0 where
@@ -63,7 +65,8 @@ module _ (tokens braces : ℕ) where
 
   pub sound_param : (ts : List Terminal) → Sound IsParam ts (r.param ts)
   unfolding r.param
-  sound_param ts = sound_expect sort.Name IsParam ts _ (λ name us n. sound_map (AfterSign tokens braces sort.Colon IsType) (After (name ∷ []) IsParam) us (r.typed us) _ (sound_typed tokens braces us) (λ front kind t.
+  sound_param ts = sound_expect sort.Name IsParam ts _ (λ name us n. sound_map (AfterSign tokens braces sort.Colon IsType) (After (name ∷ []) IsParam) us (r.typed us) _
+      (sound_typed tokens braces us) (λ front kind t.
       subst (λ (l : List Terminal). IsParam (name ∷ l) (record { name = name.bytes; kind = kind; site = name.site })) t.split (g.param n t.is_sign t.spelled)))
 
   -- "(" [ params ] ")"
@@ -96,13 +99,16 @@ module _ (tokens braces : ℕ) where
       sound_expect sort.Assign (λ l x. IsPred (word ∷ name ∷ (front ++ (more ++ l))) x) xs _ (λ assign ys a.
       sound_then IsExpr (λ l x. IsPred (word ∷ name ∷ (front ++ (more ++ (assign ∷ l)))) x) ys ((free.whole tokens braces) ys) _ (sound_expr tokens braces ys) (λ body zs e q.
       sound_expect sort.Semicolon (λ l x. IsPred (word ∷ name ∷ (front ++ (more ++ (assign ∷ (body ++ l))))) x) zs _ (λ semicolon left s.
-      sound_pure _ left _ (subst (λ (l : List Terminal). IsPred (word ∷ name ∷ (l ++ (more ++ (assign ∷ (body ++ semicolon ∷ []))))) (record { name = name.bytes; params = params; result = kind; body = e; site = name.site })) p.split
-      (subst (λ (l : List Terminal). IsPred (word ∷ name ∷ ((p.opening ∷ (p.words ++ p.closing ∷ [])) ++ (l ++ (assign ∷ (body ++ semicolon ∷ []))))) (record { name = name.bytes; params = params; result = kind; body = e; site = name.site })) t.split
+      sound_pure _ left _ (subst (λ (l : List Terminal). IsPred (word ∷ name ∷ (l ++ (more ++ (assign ∷ (body ++ semicolon ∷ [])))))
+      (record { name = name.bytes; params = params; result = kind; body = e; site = name.site })) p.split
+      (subst (λ (l : List Terminal). IsPred (word ∷ name ∷ ((p.opening ∷ (p.words ++ p.closing ∷ [])) ++ (l ++ (assign ∷ (body ++ semicolon ∷ [])))))
+      (record { name = name.bytes; params = params; result = kind; body = e; site = name.site })) t.split
       (subst (λ (l : List Terminal). IsPred l (record { name = name.bytes; params = params; result = kind; body = e; site = name.site }))
       (pred_words word name p.opening p.words p.closing t.sign t.words assign body semicolon)
       (g.pred w n p.is_opening p.are_params p.is_closing t.is_sign t.spelled a q s)))))))))))
 
-  proc_words : (word name opening : Terminal) (ts : List Terminal) (closing : Terminal) (us : List Terminal) → (word ∷ name ∷ opening ∷ ts ++ closing ∷ us) ≡ word ∷ name ∷ ((opening ∷ (ts ++ closing ∷ [])) ++ us)
+  proc_words : (word name opening : Terminal) (ts : List Terminal) (closing : Terminal) (us : List Terminal)
+      → (word ∷ name ∷ opening ∷ ts ++ closing ∷ us) ≡ word ∷ name ∷ ((opening ∷ (ts ++ closing ∷ [])) ++ us)
   proc_words word name opening ts closing us = simp append_assoc
 
   pub sound_proc : (ts : List Terminal) → Sound IsProc ts ((free.proc tokens braces) ts)
@@ -119,7 +125,8 @@ module _ (tokens braces : ℕ) where
   sound_thread ts = sound_expect sort.Thread IsThread ts _ (λ word us w. sound_expect sort.Name (After (word ∷ []) IsThread) us _ (λ name vs n.
       sound_map IsBlock (After (word ∷ name ∷ []) IsThread) vs ((free.body_block tokens braces) vs) _ (sound_body tokens braces vs) (λ block body b. g.thread w n b)))
 
-  pub sound_items : {A : Type 0} (item : Reader A) (P : List Terminal → A → Type 0) → ((ts : List Terminal) → Sound P ts (item ts)) → (s : Sort) (ts : List Terminal) → Sound (AreMany P) ts (many (is_sort s) item ts)
+  pub sound_items : {A : Type 0} (item : Reader A) (P : List Terminal → A → Type 0) → ((ts : List Terminal) → Sound P ts (item ts)) → (s : Sort) (ts : List Terminal)
+      → Sound (AreMany P) ts (many (is_sort s) item ts)
   sound_items item P reads s ts = sound_many item P reads (AreMany P) (is_sort s) g.none (λ before words xs x h p. many_more P words x p h) ts
 
   program_words : (ts us vs ws xs : List Terminal) → (ts ++ us ++ vs ++ ws ++ xs) ≡ ts ++ (us ++ (vs ++ (ws ++ (xs ++ []))))
@@ -135,9 +142,12 @@ module _ (tokens braces : ℕ) where
   sound_program ts =
       sound_then (AreMany IsClass) Parses ts (many (is_sort sort.Class) r.class ts) _ (sound_items r.class IsClass sound_class sort.Class ts) (λ a us classes p.
       sound_then IsShared (After a Parses) us (r.shared_block us) _ (sound_shared_block us) (λ b vs shared q.
-      sound_then (AreMany IsPred) (λ l x. Parses (a ++ (b ++ l)) x) vs (many (is_sort sort.Pred) (free.pred tokens braces) vs) _ (sound_items (free.pred tokens braces) IsPred sound_pred sort.Pred vs) (λ c ws preds h.
-      sound_then (AreMany IsProc) (λ l x. Parses (a ++ (b ++ (c ++ l))) x) ws (many (is_sort sort.Proc) (free.proc tokens braces) ws) _ (sound_items (free.proc tokens braces) IsProc sound_proc sort.Proc ws) (λ d xs procs k.
-      sound_then (AreMany IsThread) (λ l x. Parses (a ++ (b ++ (c ++ (d ++ l)))) x) xs (many (is_sort sort.Thread) (free.thread tokens braces) xs) _ (sound_items (free.thread tokens braces) IsThread sound_thread sort.Thread xs) (λ e ys threads m.
+      sound_then (AreMany IsPred) (λ l x. Parses (a ++ (b ++ l)) x) vs (many (is_sort sort.Pred) (free.pred tokens braces) vs) _
+      (sound_items (free.pred tokens braces) IsPred sound_pred sort.Pred vs) (λ c ws preds h.
+      sound_then (AreMany IsProc) (λ l x. Parses (a ++ (b ++ (c ++ l))) x) ws (many (is_sort sort.Proc) (free.proc tokens braces) ws) _
+      (sound_items (free.proc tokens braces) IsProc sound_proc sort.Proc ws) (λ d xs procs k.
+      sound_then (AreMany IsThread) (λ l x. Parses (a ++ (b ++ (c ++ (d ++ l)))) x) xs (many (is_sort sort.Thread) (free.thread tokens braces) xs) _
+      (sound_items (free.thread tokens braces) IsThread sound_thread sort.Thread xs) (λ e ys threads m.
       sound_finish (λ l x. Parses (a ++ (b ++ (c ++ (d ++ (e ++ l))))) x) ys (record { classes = classes; shared = shared; preds = preds; procs = procs; threads = threads })
       (subst (λ (l : List Terminal). Parses l (record { classes = classes; shared = shared; preds = preds; procs = procs; threads = threads })) (program_words a b c d e) (g.program p q h k m)))))))
 
@@ -158,7 +168,8 @@ module _ (tokens braces : ℕ) where
 
   program_ends : (ts : List Terminal) → Ends ((free.program tokens braces) ts)
   unfolding free.program
-  program_ends ts = ends_then (many (is_sort sort.Class) r.class ts) _ (λ classes us. ends_then (r.shared_block us) _ (λ shared vs. ends_then (many (is_sort sort.Pred) (free.pred tokens braces) vs) _ (λ preds ws.
+  program_ends ts = ends_then (many (is_sort sort.Class) r.class ts) _
+      (λ classes us. ends_then (r.shared_block us) _ (λ shared vs. ends_then (many (is_sort sort.Pred) (free.pred tokens braces) vs) _ (λ preds ws.
       ends_then (many (is_sort sort.Proc) (free.proc tokens braces) ws) _ (λ procs xs. ends_then (many (is_sort sort.Thread) (free.thread tokens braces) xs) _ (λ threads ys. ends_finish ys _)))))
 
   -- a program that is read is spelled by all of the terminals

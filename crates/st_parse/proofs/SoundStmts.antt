@@ -1,5 +1,6 @@
 -- What is read as a type, a value, a statement or a block is spelled so.
-use Rattle.std.proofs.Common.{◌≡◌, ℕ, zero, suc, Bool, true, false, not, if◌then◌else◌, List, [], ◌∷◌, ◌++◌, length, Option, Some, None, Result, Ok, Err, refl, sym, ap, subst, ◌∙◌, append_assoc, append-nil}
+use Rattle.std.proofs.Common.{◌≡◌, ℕ, zero, suc, Bool, true, false, not, if◌then◌else◌, List, [], ◌∷◌, ◌++◌, length, Option, Some, None, Result, Ok, Err, refl, sym, ap, subst, ◌∙◌}
+use Rattle.std.proofs.Common.{append_assoc, append-nil}
 use Rattle.st_ast.specs.declared.declarations.TypeName.{TypeName}
 use Rattle.st_ast.specs.declared.declarations.TypeName.TheVariants as types
 use Rattle.st_ast.specs.declared.expressions.Expr.{Expr}
@@ -30,9 +31,11 @@ module _ (tokens braces : ℕ) where
     pub is_sign : Is s sign
     pub spelled : P words x
 
-  pub sound_after_sign : {A : Type 0} (s : Sort) (P : List Terminal → A → Type 0) (reader : Reader A) → ((ts : List Terminal) → Sound P ts (reader ts)) → (ts : List Terminal) → Sound (AfterSign s P) ts ((expect s >> reader) ts)
+  pub sound_after_sign : {A : Type 0} (s : Sort) (P : List Terminal → A → Type 0) (reader : Reader A) → ((ts : List Terminal) → Sound P ts (reader ts)) → (ts : List Terminal)
+      → Sound (AfterSign s P) ts ((expect s >> reader) ts)
   sound_after_sign s P reader reads ts =
-      sound_expect s (AfterSign s P) ts (λ _. reader) (λ t us h. sound_weaken P (After (t ∷ []) (AfterSign s P)) us (reader us) (reads us) (λ ws x p. record { sign = t; words = ws; split = refl; is_sign = h; spelled = p }))
+      sound_expect s (AfterSign s P) ts (λ _. reader) (λ t us h. sound_weaken P (After (t ∷ []) (AfterSign s P)) us (reader us) (reads us)
+      (λ ws x p. record { sign = t; words = ws; split = refl; is_sign = h; spelled = p }))
 
   -- ---- types
 
@@ -97,7 +100,8 @@ module _ (tokens braces : ℕ) where
 
   pub sound_assigned : (ts : List Terminal) → Sound Assigned ts ((free.assigned tokens braces) ts)
   unfolding free.assigned
-  sound_assigned ts = sound_expect sort.Assign Assigned ts _ (λ assign us a. sound_then IsValue (After (assign ∷ []) Assigned) us ((free.value_here tokens braces) us) _ (sound_value us) (λ words vs v p.
+  sound_assigned ts = sound_expect sort.Assign Assigned ts _ (λ assign us a. sound_then IsValue (After (assign ∷ []) Assigned) us ((free.value_here tokens braces) us) _ (sound_value us)
+      (λ words vs v p.
       sound_expect sort.Semicolon (λ l x. Assigned (assign ∷ (words ++ l)) x) vs _ (λ semicolon ws s.
       sound_pure _ ws v (record { assign = assign; words = words; semicolon = semicolon; split = refl; is_assign = a; is_value = p; is_semicolon = s }))))
 
@@ -152,7 +156,8 @@ module _ (tokens braces : ℕ) where
       subst (λ (l : List Terminal). IsStmt (name ∷ l) (stmt.Assign name.bytes v name.site)) a.split (g.assigned n a.is_assign a.is_value a.is_semicolon))
   after_name_at name n sort.OpenParen ts = sound_call name n ts
   after_name_at name n sort.Dot ts =
-      sound_then (After (name ∷ []) IsPlace) (After (name ∷ []) IsStmt) ts (r.place_after name ts) (free.put_after tokens braces) (sound_place_after name ts n) (λ front us place p. sound_put (name ∷ front) place p us)
+      sound_then (After (name ∷ []) IsPlace) (After (name ∷ []) IsStmt) ts (r.place_after name ts) (free.put_after tokens braces) (sound_place_after name ts n)
+      (λ front us place p. sound_put (name ∷ front) place p us)
   after_name_at name n s ts = tt
 
   pub sound_check : (ts : List Terminal) → Sound IsStmt ts ((free.check_stmt tokens braces) ts)
@@ -172,13 +177,15 @@ module _ (tokens braces : ℕ) where
 
   pub sound_condition : (ts : List Terminal) → Sound InParens ts ((free.condition tokens braces) ts)
   unfolding free.condition
-  sound_condition ts = sound_expect sort.OpenParen InParens ts _ (λ opening us o. sound_then IsExpr (After (opening ∷ []) InParens) us ((free.whole tokens braces) us) _ (sound_expr us) (λ front vs e p.
+  sound_condition ts = sound_expect sort.OpenParen InParens ts _
+      (λ opening us o. sound_then IsExpr (After (opening ∷ []) InParens) us ((free.whole tokens braces) us) _ (sound_expr us) (λ front vs e p.
       sound_expect sort.CloseParen (λ l x. InParens (opening ∷ (front ++ l)) x) vs _ (λ closing ws c.
       sound_pure _ ws _ (record { opening = opening; words = front; closing = closing; split = refl; is_opening = o; is_expr = p; is_closing = c }))))
 
   -- ---- statements with blocks, where those inside are read well
 
-  if_words : (word opening : Terminal) (ts : List Terminal) (closing : Terminal) (us vs : List Terminal) → (word ∷ opening ∷ ts ++ closing ∷ us ++ vs) ≡ word ∷ ((opening ∷ (ts ++ closing ∷ [])) ++ (us ++ vs))
+  if_words : (word opening : Terminal) (ts : List Terminal) (closing : Terminal) (us vs : List Terminal)
+      → (word ∷ opening ∷ ts ++ closing ∷ us ++ vs) ≡ word ∷ ((opening ∷ (ts ++ closing ∷ [])) ++ (us ++ vs))
   if_words word opening ts closing us vs = simp append_assoc
 
   while_words : (word opening : Terminal) (ts : List Terminal) (closing : Terminal) (us : List Terminal) → (word ∷ opening ∷ ts ++ closing ∷ us) ≡ word ∷ ((opening ∷ (ts ++ closing ∷ [])) ++ us)

@@ -1,5 +1,6 @@
 -- What the readers of expressions make of what their rules ask for, one step each.
-use Rattle.std.proofs.Common.{◌≡◌, ℕ, zero, suc, ◌≤◌, ◌<◌, Bool, true, false, if◌then◌else◌, List, [], ◌∷◌, ◌++◌, length, Option, Some, None, is_some, Result, Ok, Err, refl, sym, ap, subst, ◌∙◌, arith, length-append}
+use Rattle.std.proofs.Common.{◌≡◌, ℕ, zero, suc, ◌≤◌, ◌<◌, Bool, true, false, if◌then◌else◌, List, [], ◌∷◌, ◌++◌, length, Option, Some, None, is_some, Result, Ok, Err, refl, sym}
+use Rattle.std.proofs.Common.{ap, subst, ◌∙◌, arith, length-append}
 use Rattle.st_ast.specs.declared.expressions.Expr.{Expr}
 use Rattle.st_ast.specs.declared.expressions.Expr.TheVariants as expr
 use Rattle.st_ast.specs.declared.operators.Op.{Op}
@@ -41,7 +42,8 @@ pub enclosed_some : {A : Type 0} (list : Reader (List A)) (xs : List Terminal) (
 unfolding enclosed sees
 enclosed_some list xs items closing rest e l h =
     ap (λ (b : Bool). and_then ((if b then pure [] else list) xs) (λ items. expect sort.CloseParen >> pure items)) e
-    ∙ then_ok (list xs) (λ items. expect sort.CloseParen >> pure items) items (closing ∷ rest) (Ok (items, rest)) l (expect_then sort.CloseParen (λ _. pure items) closing rest (Ok (items, rest)) h refl)
+    ∙ then_ok (list xs) (λ items. expect sort.CloseParen >> pure items) items (closing ∷ rest) (Ok (items, rest)) l
+    (expect_then sort.CloseParen (λ _. pure items) closing rest (Ok (items, rest)) h refl)
 
 -- items after commas
 pub comma_turn : {A : Type 0} (item : Reader A) (items : List A) (comma : Terminal) (xs : List Terminal) (x : A) (rest : List Terminal) → Is sort.Comma comma → item xs ≡ Ok (x, rest)
@@ -50,7 +52,8 @@ comma_turn item items comma xs x rest h e =
     then_ok ((expect sort.Comma >> item) (comma ∷ xs)) (λ y. pure (items ++ y ∷ [])) x rest (Ok (items ++ x ∷ [], rest)) (expect_then sort.Comma (λ _. item) comma xs (Ok (x, rest)) h e) refl
 
 -- fields
-pub field_ok : (object : Expr) (dot name : Terminal) (rest : List Terminal) → Is sort.Dot dot → Is sort.Name name → r.field_after object (dot ∷ name ∷ rest) ≡ Ok (expr.Field object name.bytes dot.site, rest)
+pub field_ok : (object : Expr) (dot name : Terminal) (rest : List Terminal) → Is sort.Dot dot → Is sort.Name name
+    → r.field_after object (dot ∷ name ∷ rest) ≡ Ok (expr.Field object name.bytes dot.site, rest)
 unfolding r.field_after
 field_ok object dot name rest d n = expect_then sort.Dot _ dot (name ∷ rest) _ d (expect_then sort.Name _ name rest _ n refl)
 
@@ -64,7 +67,8 @@ pub fields_end : (object : Expr) (rest : List Terminal) → 2 < tier (next_sort 
 unfolding r.fields_after
 fields_end object rest h = turns_end (is_sort sort.Dot) r.field_after object rest (is_other 2 (next_sort rest) sort.Dot refl h)
 
-pub shared_ok : (shared dot name : Terminal) (rest : List Terminal) → Is sort.Shared shared → Is sort.Dot dot → Is sort.Name name → r.shared_field (shared ∷ dot ∷ name ∷ rest) ≡ Ok (expr.Shared name.bytes dot.site, rest)
+pub shared_ok : (shared dot name : Terminal) (rest : List Terminal) → Is sort.Shared shared → Is sort.Dot dot → Is sort.Name name
+    → r.shared_field (shared ∷ dot ∷ name ∷ rest) ≡ Ok (expr.Shared name.bytes dot.site, rest)
 unfolding r.shared_field
 shared_ok shared dot name rest s d n = expect_then sort.Shared _ shared (dot ∷ name ∷ rest) _ s (expect_then sort.Dot _ dot (name ∷ rest) _ d (expect_then sort.Name _ name rest _ n refl))
 
@@ -81,7 +85,8 @@ prefixed_ok (suc d) xs out w h = h d (omega arith)
 
 module _ (inner : Level → Reader Expr) where
   -- primaries
-  pub leaf_ok : (s : Sort) (f : Terminal → Expr) (t : Terminal) (rest : List Terminal) → Is s t → r.primary_by inner s (t ∷ rest) ≡ r.literal (t ∷ rest) → r.literal_by s (t ∷ rest) ≡ (f <$> take_any) (t ∷ rest)
+  pub leaf_ok : (s : Sort) (f : Terminal → Expr) (t : Terminal) (rest : List Terminal) → Is s t → r.primary_by inner s (t ∷ rest) ≡ r.literal (t ∷ rest)
+      → r.literal_by s (t ∷ rest) ≡ (f <$> take_any) (t ∷ rest)
       → r.primary inner (t ∷ rest) ≡ Ok (f t, rest)
   unfolding r.primary r.literal take_any
   leaf_ok s f t rest h e k = at_sort (r.primary_by inner) s t rest (Ok (f t, rest)) h (e ∙ at_sort r.literal_by s t rest (Ok (f t, rest)) h k)
@@ -93,16 +98,19 @@ module _ (inner : Level → Reader Expr) where
   pub local_ok : (t : Terminal) (rest : List Terminal) → Is sort.Name t → 1 < tier (next_sort rest) → r.named inner (t ∷ rest) ≡ Ok (expr.Local t.bytes t.site, rest)
   unfolding r.named sees
   local_ok t rest h w = expect_then sort.Name _ t rest _ h
-      (ap (λ (b : Bool). (if b then (expect sort.OpenParen >> (λ found. expr.Call t.bytes found t.site) <$> r.args inner) else pure (expr.Local t.bytes t.site)) rest) (is_other 1 (next_sort rest) sort.OpenParen refl w))
+      (ap (λ (b : Bool). (if b then (expect sort.OpenParen >> (λ found. expr.Call t.bytes found t.site) <$> r.args inner) else pure (expr.Local t.bytes t.site)) rest)
+      (is_other 1 (next_sort rest) sort.OpenParen refl w))
 
   pub call_ok : (name opening : Terminal) (xs : List Terminal) (args : List Expr) (rest : List Terminal) → Is sort.Name name → Is sort.OpenParen opening → r.args inner xs ≡ Ok (args, rest)
       → r.named inner (name ∷ opening ∷ xs) ≡ Ok (expr.Call name.bytes args name.site, rest)
   unfolding r.named sees
   call_ok name opening xs args rest n o e = expect_then sort.Name _ name (opening ∷ xs) _ n
-      (ap (λ (b : Bool). (if b then (expect sort.OpenParen >> (λ found. expr.Call name.bytes found name.site) <$> r.args inner) else pure (expr.Local name.bytes name.site)) (opening ∷ xs)) (same_is sort.OpenParen opening o)
+      (ap (λ (b : Bool). (if b then (expect sort.OpenParen >> (λ found. expr.Call name.bytes found name.site) <$> r.args inner) else pure (expr.Local name.bytes name.site)) (opening ∷ xs))
+      (same_is sort.OpenParen opening o)
       ∙ expect_then sort.OpenParen _ opening xs _ o (then_ok (r.args inner xs) _ args rest _ e refl))
 
-  pub paren_ok : (opening : Terminal) (xs : List Terminal) (e : Expr) (closing : Terminal) (rest : List Terminal) → Is sort.OpenParen opening → inner level.Whole xs ≡ Ok (e, closing ∷ rest) → Is sort.CloseParen closing
+  pub paren_ok : (opening : Terminal) (xs : List Terminal) (e : Expr) (closing : Terminal) (rest : List Terminal) → Is sort.OpenParen opening → inner level.Whole xs ≡ Ok (e, closing ∷ rest)
+      → Is sort.CloseParen closing
       → r.paren inner (opening ∷ xs) ≡ Ok (expr.Paren e opening.site, rest)
   unfolding r.paren
   paren_ok opening xs e closing rest o h c = expect_then sort.OpenParen _ opening xs _ o (then_ok (inner level.Whole xs) _ e (closing ∷ rest) _ h (expect_then sort.CloseParen _ closing rest _ c refl))
@@ -125,11 +133,13 @@ module _ (inner : Level → Reader Expr) where
   unfolding r.unary
   plain_ok xs e rest h = unary_at (next_sort xs) xs e rest refl h
 
-  pub not_ok : (mark : Terminal) (xs : List Terminal) (e : Expr) (rest : List Terminal) → Is sort.Not mark → inner level.Prefixed xs ≡ Ok (e, rest) → r.unary inner (mark ∷ xs) ≡ Ok (expr.Not e mark.site, rest)
+  pub not_ok : (mark : Terminal) (xs : List Terminal) (e : Expr) (rest : List Terminal) → Is sort.Not mark → inner level.Prefixed xs ≡ Ok (e, rest)
+      → r.unary inner (mark ∷ xs) ≡ Ok (expr.Not e mark.site, rest)
   unfolding r.unary take_any
   not_ok mark xs e rest m h = at_sort (r.unary_by inner) sort.Not mark xs _ m (then_ok (inner level.Prefixed xs) _ e rest _ h refl)
 
-  pub minus_ok : (mark : Terminal) (xs : List Terminal) (e : Expr) (rest : List Terminal) → Is sort.Minus mark → inner level.Prefixed xs ≡ Ok (e, rest) → r.unary inner (mark ∷ xs) ≡ Ok (expr.Minus e mark.site, rest)
+  pub minus_ok : (mark : Terminal) (xs : List Terminal) (e : Expr) (rest : List Terminal) → Is sort.Minus mark → inner level.Prefixed xs ≡ Ok (e, rest)
+      → r.unary inner (mark ∷ xs) ≡ Ok (expr.Minus e mark.site, rest)
   unfolding r.unary take_any
   minus_ok mark xs e rest m h = at_sort (r.unary_by inner) sort.Minus mark xs _ m (then_ok (inner level.Prefixed xs) _ e rest _ h refl)
 
@@ -162,7 +172,8 @@ module _ (inner : Level → Reader Expr) where
   unfolding r.cmp
   cmp_one xs e rest h w = then_ok (r.sum inner xs) _ e rest _ h (ap (λ (o : Option Op). r.cmp_after inner e o rest) (ends_compared (next_sort rest) w))
 
-  pub cmp_two : (xs : List Terminal) (left : Expr) (mark : Terminal) (op : Op) (us : List Terminal) (right : Expr) (rest : List Terminal) → r.sum inner xs ≡ Ok (left, mark ∷ us) → IsCompared op mark → r.sum inner us ≡ Ok (right, rest)
+  pub cmp_two : (xs : List Terminal) (left : Expr) (mark : Terminal) (op : Op) (us : List Terminal) (right : Expr) (rest : List Terminal) → r.sum inner xs ≡ Ok (left, mark ∷ us)
+      → IsCompared op mark → r.sum inner us ≡ Ok (right, rest)
       → r.cmp inner xs ≡ Ok (expr.Binary op left right mark.site, rest)
   unfolding r.cmp
   cmp_two xs left mark op us right rest h o k = then_ok (r.sum inner xs) _ left (mark ∷ us) _ h
@@ -174,9 +185,12 @@ module _ (inner : Level → Reader Expr) where
   choice_one xs e rest h w = then_ok (r.or inner xs) _ e rest _ h
       (ap (λ (b : Bool). (if b then r.branches inner e else pure e) rest) (is_other 8 (next_sort rest) sort.Question refl w))
 
-  pub choice_two : (xs : List Terminal) (test : Expr) (question : Terminal) (us : List Terminal) (left : Expr) (colon : Terminal) (vs : List Terminal) (right : Expr) (rest : List Terminal) → r.or inner xs ≡ Ok (test, question ∷ us)
-      → Is sort.Question question → inner level.Whole us ≡ Ok (left, colon ∷ vs) → Is sort.Colon colon → inner level.Whole vs ≡ Ok (right, rest) → r.choice inner xs ≡ Ok (expr.Cond test left right question.site, rest)
+  pub choice_two : (xs : List Terminal) (test : Expr) (question : Terminal) (us : List Terminal) (left : Expr) (colon : Terminal) (vs : List Terminal) (right : Expr) (rest : List Terminal)
+      → r.or inner xs ≡ Ok (test, question ∷ us)
+      → Is sort.Question question → inner level.Whole us ≡ Ok (left, colon ∷ vs) → Is sort.Colon colon → inner level.Whole vs ≡ Ok (right, rest) → r.choice inner xs ≡ Ok
+      (expr.Cond test left right question.site, rest)
   unfolding r.choice r.branches sees
   choice_two xs test question us left colon vs right rest h q l c k = then_ok (r.or inner xs) _ test (question ∷ us) _ h
       (ap (λ (b : Bool). (if b then r.branches inner test else pure test) (question ∷ us)) (same_is sort.Question question q)
-      ∙ expect_then sort.Question _ question us _ q (then_ok (inner level.Whole us) _ left (colon ∷ vs) _ l (expect_then sort.Colon _ colon vs _ c (then_ok (inner level.Whole vs) _ right rest _ k refl))))
+      ∙ expect_then sort.Question _ question us _ q (then_ok (inner level.Whole us) _ left (colon ∷ vs) _ l
+      (expect_then sort.Colon _ colon vs _ c (then_ok (inner level.Whole vs) _ right rest _ k refl))))

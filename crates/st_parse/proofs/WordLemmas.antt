@@ -7,7 +7,8 @@ use Rattle.st_parse.specs.declared.levels.Chain.TheVariants as chain
 use Rattle.st_parse.specs.declared.sorts.Sort.{Sort}
 use Rattle.st_parse.specs.declared.sorts.Sort.TheVariants as sort
 use Rattle.st_parse.specs.Grammar.{IsPlace, of_local, of_shared, of_field, IsExpr, only, IsOr, or_first, or_next, IsAnd, and_first, and_next, IsCmp, cmp_only, cmp_both, IsSum, sum_first, sum_next}
-use Rattle.st_parse.specs.Grammar.{IsTerm, term_first, term_next, IsUnary, plain, not_of, minus_of, IsPostfix, primary, field_of, IsPrimary, number, truth, untruth, null, local, call, shared_field, paren}
+use Rattle.st_parse.specs.Grammar.{IsTerm, term_first, term_next, IsUnary, plain, not_of, minus_of, IsPostfix, primary, field_of, IsPrimary, number, truth, untruth, null, local}
+use Rattle.st_parse.specs.Grammar.{call, shared_field, paren}
 use Rattle.st_parse.specs.Grammar.{AreArgs, no_args, some_args, AreExprs, last_expr, next_expr}
 use Rattle.st_parse.specs.Grammar as g
 use Rattle.st_parse.specs.Operators.{chained, compared, IsChained, IsCompared}
