@@ -3,17 +3,20 @@ use Rattle.std.proofs.Common.{ℕ, ◌+◌, ◌≤◌, ◌<◌, arith}
 use Rattle.st_io.specs.Counts.{RoseBy}
 
 -- what rose in the first part of a call rose in the whole
-pub RoseBy-later : (n before now later : ℕ) → RoseBy n before now → now ≤ later → RoseBy n before later
-RoseBy-later n before now later rose no_fall = omega arith
+pub rise_in_the_first_part_is_a_rise : (n before now later : ℕ)
+    → RoseBy n before now → now ≤ later → RoseBy n before later
+rise_in_the_first_part_is_a_rise n before now later rose no_fall = omega arith
 
 -- what rose in the last part of a call rose in the whole
-pub RoseBy-earlier : (n earlier before now : ℕ) → earlier ≤ before → RoseBy n before now → RoseBy n earlier now
-RoseBy-earlier n earlier before now no_fall rose = omega arith
+pub rise_in_the_last_part_is_a_rise : (n earlier before now : ℕ)
+    → earlier ≤ before → RoseBy n before now → RoseBy n earlier now
+rise_in_the_last_part_is_a_rise n earlier before now no_fall rose = omega arith
 
 -- two rises that follow one another add up
-pub RoseBy-add : (m n before between now : ℕ) → RoseBy m before between → RoseBy n between now → RoseBy (m + n) before now
-RoseBy-add m n before between now first second = omega arith
+pub rises_add_up : (m n before between now : ℕ)
+    → RoseBy m before between → RoseBy n between now → RoseBy (m + n) before now
+rises_add_up m n before between now first second = omega arith
 
 -- a count that is always 0 never rose
-pub RoseBy-zero : (n : ℕ) → 0 < n → RoseBy n 0 0 → ⊥
-RoseBy-zero n some rose = omega arith
+pub count_of_0_never_rose : (n : ℕ) → 0 < n → RoseBy n 0 0 → ⊥
+count_of_0_never_rose n some rose = omega arith

@@ -6,7 +6,7 @@ pub record Grows (before : Option (List ℕ)) (bytes : List ℕ) (now : Option (
   pub told : IfSome before (λ written. now ≡ Some (written ++ bytes))
 
 -- the bytes written grew by a front of these, and a rest was left out
-pub record GrowsByPrefix (before : Option (List ℕ)) (bytes : List ℕ) (now : Option (List ℕ)) : Type 0 where
+pub record GrowsByFront (before : Option (List ℕ)) (bytes : List ℕ) (now : Option (List ℕ)) : Type 0 where
   pub front : List ℕ
   pub rest : List ℕ
   pub whole : bytes ≡ front ++ rest

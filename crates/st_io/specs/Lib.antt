@@ -1,3 +1,4 @@
+-- What the contracts of files and sinks speak of.
 pub mod Counts
 pub mod Device
 pub mod Growth

@@ -14,8 +14,8 @@ pub record Shelf : Type 0 where
   pub taken : ℕ
 
 -- each name with its bytes, as lists
-abbrev pub named : List (String Global × Vec ℕ Global) → List (List ℕ × List ℕ)
-named files = map (λ file. (string_bytes file.0, file.1.items)) files
+abbrev pub named_files : List (String Global × Vec ℕ Global) → List (List ℕ × List ℕ)
+named_files files = map (λ file. (string_bytes file.0, file.1.items)) files
 
 -- the call with this number is to fail
 unfoldable pub is_listed : List ℕ → ℕ → Bool
@@ -27,15 +27,15 @@ content_of [] name = None
 content_of (file ∷ files) name = if bytes_eq file.0 name then Some file.1 else content_of files name
 
 -- the bytes that the next call gives: none where it is to fail, or where the name is lacking
-abbrev pub given : Shelf → List ℕ → Option (List ℕ)
-given shelf name =
+abbrev pub given_bytes : Shelf → List ℕ → Option (List ℕ)
+given_bytes shelf name =
     if is_listed shelf.failing (raised 1 shelf.calls) then None else content_of shelf.files name
 
 -- a call counts its fault, or the bytes that it took: no more than one past the limit
-abbrev pub counted : Shelf → ℕ → Option (List ℕ) → Shelf
-counted shelf limit None = record shelf { faults = raised 1 shelf.faults }
-counted shelf limit (Some bytes) = record shelf { taken = raised (min (length bytes) (limit + 1)) shelf.taken }
+abbrev pub shelf_with_count : Shelf → ℕ → Option (List ℕ) → Shelf
+shelf_with_count shelf limit None = record shelf { faults = raised 1 shelf.faults }
+shelf_with_count shelf limit (Some bytes) = record shelf { taken = raised (min (length bytes) (limit + 1)) shelf.taken }
 
 -- what a read of this name leaves
 abbrev pub shelf_after : Shelf → List ℕ → ℕ → Shelf
-shelf_after shelf name limit = counted (record shelf { calls = raised 1 shelf.calls }) limit (given shelf name)
+shelf_after shelf name limit = shelf_with_count (record shelf { calls = raised 1 shelf.calls }) limit (given_bytes shelf name)

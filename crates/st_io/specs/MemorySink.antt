@@ -11,13 +11,13 @@ pub record Held : Type 0 where
   pub faults : ℕ
 
 -- how many bytes the put with this number appends before it fails, by the first entry
-unfoldable pub cut_of : List (ℕ × ℕ) → ℕ → Option ℕ
-cut_of failing number = option_map (λ entry. entry.1) (find (λ entry. entry.0 == number) failing)
+unfoldable pub listed_cut : List (ℕ × ℕ) → ℕ → Option ℕ
+listed_cut failing number = option_map (λ entry. entry.1) (find (λ entry. entry.0 == number) failing)
 
 -- how many bytes of the piece the next put appends before it fails, if it fails: none past the room
-abbrev pub cut : Held → List ℕ → Option ℕ
-cut sink piece =
-    if nat_lt sink.room (length sink.bytes + length piece) then Some 0 else cut_of sink.failing (raised 1 sink.puts)
+abbrev pub cut_of_put : Held → List ℕ → Option ℕ
+cut_of_put sink piece =
+    if nat_lt sink.room (length sink.bytes + length piece) then Some 0 else listed_cut sink.failing (raised 1 sink.puts)
 
 -- what a put leaves that appends this piece, or fails after so many bytes of it
 abbrev pub put_with : Held → List ℕ → Option ℕ → Held
@@ -26,4 +26,4 @@ put_with sink piece (Some count) = record sink { bytes = sink.bytes ++ take coun
 
 -- what a put of this piece leaves
 abbrev pub sink_after : Held → List ℕ → Held
-sink_after sink piece = put_with (record sink { puts = raised 1 sink.puts }) piece (cut sink piece)
+sink_after sink piece = put_with (record sink { puts = raised 1 sink.puts }) piece (cut_of_put sink piece)

@@ -1,3 +1,4 @@
+-- Files that all hold one text.
 use Rattle.std.specs.Prelude.{ℕ, List}
 
 -- the one text, and how many bytes of it were taken

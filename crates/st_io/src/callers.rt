@@ -1,7 +1,7 @@
 //! What a caller that is generic in its files and its sink can promise from their traits alone.
 ghost use Rattle.std.specs.Prelude.{◌≡◌, ◌≢◌, ◌≤◌, length, flat_map, string_bytes, IfOk, IfSome, OnOk, OnErr};
 ghost use Rattle.st_io.specs.Counts.{RoseBy};
-ghost use Rattle.st_io.specs.Growth.{Grows, GrowsByPrefix};
+ghost use Rattle.st_io.specs.Growth.{Grows, GrowsByFront};
 
 use crate::{Files, FilesFault, Sink, SinkFault, SureFiles, SureSink};
 use std::alloc::Global;
@@ -11,7 +11,7 @@ fn put_all<S: Sink>(out: &mut S, lines: &[String]) -> Result<(), SinkFault>
     ensures ok { OnOk result
         (Grows (S.written out.old) (flat_map (λ line. string_bytes line) lines.now) (S.written out.new)) }
     ensures cut { OnErr result
-        (GrowsByPrefix (S.written out.old) (flat_map (λ line. string_bytes line) lines.now) (S.written out.new)) }
+        (GrowsByFront (S.written out.old) (flat_map (λ line. string_bytes line) lines.now) (S.written out.new)) }
     ensures failed { OnErr result (RoseBy 1 (S.faults out.old) (S.faults out.new)) }
     ensures faults { S.faults out.old ≤ S.faults out.new }
 {
@@ -22,7 +22,7 @@ fn put_all<S: Sink>(out: &mut S, lines: &[String]) -> Result<(), SinkFault>
 }
 
 // How many bytes a file has.
-fn size<F: Files>(alloc: Global, files: &mut F, name: &str) -> Result<usize, FilesFault>
+fn measure<F: Files>(alloc: Global, files: &mut F, name: &str) -> Result<usize, FilesFault>
     ensures size { IfOk result (λ size. IfSome (F.told files.old name.now) (λ bytes. size ≡ length bytes)) }
     ensures failed { result ≡ Err FilesFault.Failed → RoseBy 1 (F.faults files.old) (F.faults files.new) }
     ensures faults { F.faults files.old ≤ F.faults files.new }
@@ -33,14 +33,14 @@ fn size<F: Files>(alloc: Global, files: &mut F, name: &str) -> Result<usize, Fil
 }
 
 // Over the sure ones no fault is answered.
-fn sure_size(alloc: Global, files: &mut SureFiles) -> Result<usize, FilesFault>
+fn measure_sure(alloc: Global, files: &mut SureFiles) -> Result<usize, FilesFault>
     ensures size { IfOk result (λ size. size ≡ length files.old.text) }
     ensures no_fault { result ≢ Err FilesFault.Failed }
 {
-    size(alloc, files, "any")
+    measure(alloc, files, "any")
 }
 
-fn sure_put(out: &mut SureSink, lines: &[String]) -> Result<(), SinkFault>
+fn put_sure(out: &mut SureSink, lines: &[String]) -> Result<(), SinkFault>
     ensures { result ≡ Ok tt }
 {
     put_all(out, lines)

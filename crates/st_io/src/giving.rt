@@ -2,7 +2,7 @@
 ghost use Rattle.std.specs.Prelude.{◌≡◌, ◌≢◌, ◌+◌, ◌<◌, ◌≤◌, ◌↔◌, [], length, min, OnOk, OnErr};
 ghost use Rattle.st_io.specs.Counts.{raised};
 
-use crate::faults::FilesFault;
+use crate::errors::FilesFault;
 
 // Gives `bytes` to `into`, where there are at most `limit` of them, and counts those that were taken: no more than one
 // past the limit.

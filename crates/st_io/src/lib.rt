@@ -4,7 +4,7 @@
 
 #[cfg(test)]
 mod callers;
-mod faults;
+mod errors;
 mod giving;
 mod memory_files;
 mod memory_sinks;
@@ -18,7 +18,7 @@ mod taking;
 mod tests;
 mod writing;
 
-pub use faults::{FilesFault, SinkFault};
+pub use errors::{FilesFault, SinkFault};
 pub use memory_files::MemFiles;
 pub use memory_sinks::MemSink;
 pub use pacing::{NoPace, Pace};

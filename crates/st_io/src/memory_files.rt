@@ -2,9 +2,9 @@
 ghost use Rattle.std.specs.Prelude.{◌≡◌, ◌≢◌, ℕ, ◌+◌, ◌<◌, ◌≤◌, ◌↔◌, List, [], length, IfSome, OnOk, OnErr, None, if◌then◌else◌};
 ghost use Rattle.std.specs.Option.{option_copied};
 ghost use Rattle.st_io.specs.Counts.{RoseBy};
-ghost use Rattle.st_io.specs.MemoryFiles.{named, is_listed, content_of, given, shelf_after};
+ghost use Rattle.st_io.specs.MemoryFiles.{named_files, is_listed, content_of, given_bytes, shelf_after};
 
-use crate::faults::FilesFault;
+use crate::errors::FilesFault;
 use crate::giving::give;
 use crate::reading::Files;
 use std::marker::Model;
@@ -21,12 +21,12 @@ pub struct MemFiles {
 }
 
 impl Model for MemFiles {
-    ghost use Rattle.st_io.specs.MemoryFiles.{Shelf, named};
+    ghost use Rattle.st_io.specs.MemoryFiles.{Shelf, named_files};
 
     ghost Value = { Shelf };
 
     ghost view = { λ m. record {
-      files = named m.files.items;
+      files = named_files m.files.items;
       failing = m.failing.items;
       calls = m.calls;
       faults = m.faults;
@@ -38,7 +38,7 @@ impl MemFiles {
     /// These names with their bytes, of which the first counts where a name is given twice. The calls of `read_whole`
     /// that `failing` numbers, from 1, fail.
     pub fn make(files: Vec<(String, Vec<u8>)>, failing: Vec<u32>) -> MemFiles
-        ensures files { result.files ≡ named files.items }
+        ensures files { result.files ≡ named_files files.items }
         ensures failing { result.failing ≡ failing.items }
         ensures counts { (result.calls ≡ 0) × (result.faults ≡ 0) × (result.taken ≡ 0) }
     {
@@ -61,9 +61,9 @@ fn is_listed(failing: &[u32], call: u64) -> bool
 }
 
 // The bytes of the first file of this name.
-fn content<'a>(files: &'a [(String, Vec<u8>)], name: &str) -> Option<&'a [u8]>
+fn find_content<'a>(files: &'a [(String, Vec<u8>)], name: &str) -> Option<&'a [u8]>
     ensures { option_copied result
-        ≡ content_of (named files.now) name.now }
+        ≡ content_of (named_files files.now) name.now }
 {
     for (held, bytes) in files {
         if held.as_str() == name {
@@ -74,7 +74,7 @@ fn content<'a>(files: &'a [(String, Vec<u8>)], name: &str) -> Option<&'a [u8]>
 }
 
 // The bytes that this call gives.
-fn find<'a>(
+fn choose_content<'a>(
     files: &'a [(String, Vec<u8>)],
     failing: &[u32],
     call: u64,
@@ -83,12 +83,12 @@ fn find<'a>(
     ensures { option_copied result
         ≡ (if is_listed failing.now call
         then None
-        else content_of (named files.now) name.now) }
+        else content_of (named_files files.now) name.now) }
 {
     if is_listed(failing, call) {
         None
     } else {
-        content(files, name)
+        find_content(files, name)
     }
 }
 
@@ -114,11 +114,11 @@ impl Files for MemFiles {
 
         // It fails exactly where the call is listed or the name is lacking. The call is counted, with its fault or with
         // the bytes that it took.
-        ensures fails { (result ≡ Err FilesFault.Failed) ↔ (given self.old name.now ≡ None) }
+        ensures fails { (result ≡ Err FilesFault.Failed) ↔ (given_bytes self.old name.now ≡ None) }
         ensures counted { self.new ≡ shelf_after self.old name.now limit }
     {
         self.calls = self.calls.saturating_add(1);
-        match find(&self.files, &self.failing, self.calls, name) {
+        match choose_content(&self.files, &self.failing, self.calls, name) {
             Some(bytes) => give(bytes, limit, &mut self.taken, into),
             None => {
                 self.faults = self.faults.saturating_add(1);

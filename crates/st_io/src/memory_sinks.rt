@@ -2,10 +2,10 @@
 ghost use Rattle.std.specs.Prelude.{◌≡◌, ◌+◌, ◌^◌, ◌<◌, ◌≤◌, ◌++◌, ◌↔◌, [], length};
 ghost use Rattle.std.specs.Prelude.{if◌then◌else◌, nat_lt, take, vec_len, vec_capacity, IfOk, OnOk, OnErr, IsErr, IsSome, Some};
 ghost use Rattle.st_io.specs.Counts.{RoseBy};
-ghost use Rattle.st_io.specs.Growth.{Grows, GrowsByPrefix};
-ghost use Rattle.st_io.specs.MemorySink.{cut_of, cut, sink_after};
+ghost use Rattle.st_io.specs.Growth.{Grows, GrowsByFront};
+ghost use Rattle.st_io.specs.MemorySink.{listed_cut, cut_of_put, sink_after};
 
-use crate::faults::SinkFault;
+use crate::errors::SinkFault;
 use crate::writing::Sink;
 use st_events::NoMemory;
 use std::alloc::Global;
@@ -70,9 +70,9 @@ impl MemSink {
 }
 
 // How many bytes the put with this number appends before it fails, if it is to fail.
-#[tactic(auto, unfolding(crate::specs::MemorySink::cut_of))]
-fn listed_cut(failing: &[(u32, u32)], put: u64) -> Option<u32>
-    ensures { result ≡ cut_of failing.now put }
+#[tactic(auto, unfolding(crate::specs::MemorySink::listed_cut))]
+fn find_cut(failing: &[(u32, u32)], put: u64) -> Option<u32>
+    ensures { result ≡ listed_cut failing.now put }
 {
     failing
         .iter()
@@ -81,15 +81,15 @@ fn listed_cut(failing: &[(u32, u32)], put: u64) -> Option<u32>
 }
 
 // How many bytes of a piece of `size` bytes go into a sink of `held` bytes before the put fails, if it fails.
-fn put_cut(held: usize, room: u32, failing: &[(u32, u32)], put: u64, size: usize) -> Option<u32>
+fn decide_cut(held: usize, room: u32, failing: &[(u32, u32)], put: u64, size: usize) -> Option<u32>
     requires held { held < 2 ^ 63 }
     requires size { size < 2 ^ 63 }
-    ensures { result ≡ (if nat_lt room (held + size) then Some 0 else cut_of failing.now put) }
+    ensures { result ≡ (if nat_lt room (held + size) then Some 0 else listed_cut failing.now put) }
 {
     if (room as usize) < held + size {
         Some(0)
     } else {
-        listed_cut(failing, put)
+        find_cut(failing, put)
     }
 }
 
@@ -114,16 +114,16 @@ impl Sink for MemSink {
 
     fn put(&mut self, bytes: &[u8]) -> Result<(), SinkFault>
         ensures appended { OnOk result (Grows (Some self.old.bytes) bytes.now (Some self.new.bytes)) }
-        ensures cut { OnErr result (GrowsByPrefix (Some self.old.bytes) bytes.now (Some self.new.bytes)) }
+        ensures cut { OnErr result (GrowsByFront (Some self.old.bytes) bytes.now (Some self.new.bytes)) }
         ensures failed { OnErr result (RoseBy 1 self.old.faults self.new.faults) }
         ensures faults { self.old.faults ≤ self.new.faults }
 
         // It fails exactly where the put is listed or past the room, after exactly so many bytes.
-        ensures fails { IsErr result ↔ IsSome (cut self.old bytes.now) }
+        ensures fails { IsErr result ↔ IsSome (cut_of_put self.old bytes.now) }
         ensures counted { self.new ≡ sink_after self.old bytes.now }
     {
         self.puts = self.puts.saturating_add(1);
-        match put_cut(
+        match decide_cut(
             self.bytes.len(),
             self.room,
             &self.failing,

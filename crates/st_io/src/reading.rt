@@ -2,7 +2,7 @@
 ghost use Rattle.std.specs.Prelude.{◌≡◌, ◌≢◌, ℕ, ◌+◌, ◌<◌, ◌≤◌, ◌↔◌, List, [], length, Option, IfSome, OnOk, OnErr};
 ghost use Rattle.st_io.specs.Counts.{RoseBy};
 
-use crate::faults::FilesFault;
+use crate::errors::FilesFault;
 
 /// Files that are read whole, each by its name. Their counts are kept in 64 bits, and stand still at the last value.
 pub trait Files {

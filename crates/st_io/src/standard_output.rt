@@ -1,10 +1,10 @@
 //! The standard output of the process.
 ghost use Rattle.std.specs.Prelude.{◌≡◌, ◌≤◌, OnOk, OnErr, None, is_ok, if◌then◌else◌};
 ghost use Rattle.st_io.specs.Counts.{RoseBy, raised};
-ghost use Rattle.st_io.specs.Growth.{Grows, GrowsByPrefix};
+ghost use Rattle.st_io.specs.Growth.{Grows, GrowsByFront};
 ghost use Rattle.std.specs.Io.KnownBytes.{Appends};
 
-use crate::faults::SinkFault;
+use crate::errors::SinkFault;
 use crate::writing::Sink;
 use std::io;
 use std::io::Write;
@@ -51,7 +51,7 @@ impl<R: Print> Sink for RealSink<'_, R> {
 
     fn put(&mut self, bytes: &[u8]) -> Result<(), SinkFault>
         ensures appended { OnOk result (Grows None bytes.now None) }
-        ensures cut { OnErr result (GrowsByPrefix None bytes.now None) }
+        ensures cut { OnErr result (GrowsByFront None bytes.now None) }
         ensures failed { OnErr result (RoseBy 1 self.old self.new) }
         ensures faults { self.old ≤ self.new }
 

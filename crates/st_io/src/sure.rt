@@ -2,7 +2,7 @@
 //! counts of faults are always 0.
 ghost use Rattle.std.specs.Prelude.{◌≡◌};
 
-use crate::faults::{FilesFault, SinkFault};
+use crate::errors::{FilesFault, SinkFault};
 use crate::giving::give;
 use crate::reading::Files;
 use crate::writing::Sink;

@@ -3,7 +3,7 @@ ghost use Rattle.std.specs.Prelude.{◌≡◌, ◌≢◌, ℕ, ◌+◌, ◌<◌,
 ghost use Rattle.st_io.specs.Counts.{RoseBy, raised};
 ghost use Rattle.st_io.specs.Device.{untold};
 
-use crate::faults::FilesFault;
+use crate::errors::FilesFault;
 use crate::reading::Files;
 use crate::taking::take_whole;
 use std::fs;

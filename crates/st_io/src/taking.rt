@@ -4,7 +4,7 @@ ghost use Rattle.std.specs.Io.KnownBytes.{IsAtEnd};
 ghost use Rattle.st_io.specs.Counts.{RoseBy, raised};
 ghost use Rattle.st_io.specs.Taking.{TakesSome};
 
-use crate::faults::FilesFault;
+use crate::errors::FilesFault;
 use std::io::{ErrorKind, Read};
 
 /// The most bytes that are asked of a source at once.

@@ -107,12 +107,15 @@ fn a_file_of_the_system_is_read_to_its_limit(rt: HostRuntime) -> Result<(), Fail
     let reads = reads_of_the_system(&rt, name, &text);
     // Before anything is asserted, so that no file is left behind.
     fs::remove_file(&rt, name)?;
-    assert_eq!(rt; reads, [
-        (Ok(()), 20_000, true),
-        (TOO_LONG, 0, true),
-        (Ok(()), 20_000, true),
-        (FAILED, 0, true),
-    ]);
+    assert_eq!(rt;
+        reads,
+        [
+            (Ok(()), 20_000, true),
+            (TOO_LONG, 0, true),
+            (Ok(()), 20_000, true),
+            (FAILED, 0, true),
+        ]
+    );
     Ok(())
 }
 

@@ -1,9 +1,9 @@
 //! A sink for bytes.
 ghost use Rattle.std.specs.Prelude.{ℕ, ◌≤◌, List, Option, OnOk, OnErr};
 ghost use Rattle.st_io.specs.Counts.{RoseBy};
-ghost use Rattle.st_io.specs.Growth.{Grows, GrowsByPrefix};
+ghost use Rattle.st_io.specs.Growth.{Grows, GrowsByFront};
 
-use crate::faults::SinkFault;
+use crate::errors::SinkFault;
 
 /// A sink that bytes are put into, a piece at a time. Its count is kept in 64 bits, and stands still at the last value.
 pub trait Sink {
@@ -17,7 +17,7 @@ pub trait Sink {
     /// them was appended.
     fn put(&mut self, bytes: &[u8]) -> Result<(), SinkFault>
         ensures appended { OnOk result (Grows (written self.old) bytes.now (written self.new)) }
-        ensures cut { OnErr result (GrowsByPrefix (written self.old) bytes.now (written self.new)) }
+        ensures cut { OnErr result (GrowsByFront (written self.old) bytes.now (written self.new)) }
         ensures failed { OnErr result (RoseBy 1 (faults self.old) (faults self.new)) }
         ensures faults { faults self.old ≤ faults self.new };
 }

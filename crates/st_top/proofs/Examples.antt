@@ -19,9 +19,9 @@ fails : status_of (Plain Holds ∷ Plain Fails ∷ []) (Finished ∷ []) ≡ 1
 unfolding run_status
 fails = refl
 
-null : (site : Site) → status_of (Abandoned 2 ∷ Plain (Null site) ∷ []) (Finished ∷ []) ≡ 1
+null : (place : Site) → status_of (Abandoned 2 ∷ Plain (Null place) ∷ []) (Finished ∷ []) ≡ 1
 unfolding run_status
-null site = refl
+null place = refl
 
 spent : status_of (Plain Spent ∷ []) (Finished ∷ []) ≡ 8
 unfolding run_status

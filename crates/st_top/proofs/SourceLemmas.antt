@@ -7,16 +7,16 @@ use Rattle.st_small_source.specs.declared.errors.SmallError.{SmallError}
 use Rattle.st_small_source.specs.declared.errors.SmallError.TheVariants as errors
 use Rattle.st_top.specs.Causes.{IsBuildRefusal}
 use Rattle.st_top.specs.Refusals.{source_refusal}
-use Rattle.st_top.specs.declared.refusals.Refusal.{Refusal}
+use Rattle.st_top.specs.declared.errors.Refusal.{Refusal}
 
 -- why a source was not built
-build_refusal-of : (text : List ℕ) (e : SmallError) → length text ≤ MOST_SOURCE_BYTES
+error_is_a_build_refusal : (text : List ℕ) (e : SmallError) → length text ≤ MOST_SOURCE_BYTES
     → (e ≡ errors.NotBuilt → (program : SmallLists) → ¬ IsSmallSource text program) → IsBuildRefusal text (source_refusal e)
-build_refusal-of text errors.Memory size form = tt
-build_refusal-of text errors.NotBuilt size form = record { size = size; form = form refl }
+error_is_a_build_refusal text errors.Memory size form = tt
+error_is_a_build_refusal text errors.NotBuilt size form = record { size = size; form = form refl }
 
-pub build_refusal : {T : Type 0} (r : Result T Refusal) (text : List ℕ) (e : SmallError) → IsErrAnd r (λ refusal. refusal ≡ source_refusal e)
+pub refused_source_is_a_build_refusal : {T : Type 0} (r : Result T Refusal) (text : List ℕ) (e : SmallError) → IsErrAnd r (λ refusal. refusal ≡ source_refusal e)
     → length text ≤ MOST_SOURCE_BYTES → (e ≡ errors.NotBuilt → (program : SmallLists) → ¬ IsSmallSource text program)
     → IfErr r (IsBuildRefusal text)
-build_refusal (Ok x) text e is size form = tt
-build_refusal (Err refusal) text e is size form = subst (IsBuildRefusal text) (sym is) (build_refusal-of text e size form)
+refused_source_is_a_build_refusal (Ok x) text e is size form = tt
+refused_source_is_a_build_refusal (Err refusal) text e is size form = subst (IsBuildRefusal text) (sym is) (error_is_a_build_refusal text e size form)

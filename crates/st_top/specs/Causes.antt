@@ -5,8 +5,8 @@ use Rattle.st_io.specs.Device.{Counted}
 use Rattle.st_lex.specs.declared.limits.TheConstants.{MOST_SOURCE_BYTES}
 use Rattle.st_small_source.specs.Small.{SmallLists}
 use Rattle.st_small_source.specs.Source.{IsSmallSource}
-use Rattle.st_top.specs.declared.refusals.Refusal.{Refusal}
-use Rattle.st_top.specs.declared.refusals.Refusal.TheVariants.{Words, NoMemory, ReadFault, SourceTooLong, SourceNotBuilt}
+use Rattle.st_top.specs.declared.errors.Refusal.{Refusal}
+use Rattle.st_top.specs.declared.errors.Refusal.TheVariants.{Words, NoMemory, ReadFault, SourceTooLong, SourceNotBuilt}
 
 -- the text has the size of a source, and is a source of no program
 pub record IsNotBuilt (text : List ℕ) : Type 0 where

@@ -1,3 +1,4 @@
+-- What the contract of the top call speaks of.
 pub mod Causes
 pub mod Refusals
 pub mod LineBytes

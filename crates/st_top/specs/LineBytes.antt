@@ -1,3 +1,4 @@
+-- Lines that are held in memory.
 use Rattle.std.specs.Prelude.{ℕ, List, map, flat_map, Vec}
 use Rattle.std.specs.Global.{Global}
 

@@ -8,14 +8,14 @@ ghost use Rattle.st_top.specs.Report.{some_fails};
 ghost use Rattle.st_top.specs.Sources.{HasReport, IsRunOfText, IsAccepted, source_of};
 ghost use Rattle.st_top.specs.Words.{named_file, texts};
 
+use crate::errors::Refusal;
 use crate::outcomes::Outcome;
-use crate::refusals::Refusal;
 use crate::sources::{Finished, run_file};
 use crate::statuses::{
     STATUS_CHECK_FAILS, STATUS_HOLDS, STATUS_NO_MEMORY, STATUS_READ_FAULT, STATUS_WORDS,
     STATUS_WRITE_FAULT,
 };
-use crate::words::file_named;
+use crate::words::find_named_file;
 use crate::writing::{publish, refuse};
 use st_io::{Files, NoPace, Pace, Sink, SureFiles, SureSink};
 use std::alloc::Global;
@@ -130,7 +130,7 @@ fn run_words<F: Files>(alloc: Global, words: &[String], files: &mut F) -> Result
     ensures faults { F.faults files.old ≤ F.faults files.new }
     ensures taken { F.taken files.old ≤ F.taken files.new }
 {
-    match file_named(words) {
+    match find_named_file(words) {
         Some(name) => run_file(alloc, files, name),
         None => Err(Refusal::Words),
     }

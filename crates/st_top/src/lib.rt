@@ -3,9 +3,9 @@
 #![tactic(auto)]
 
 mod calls;
+mod errors;
 mod lines;
 mod outcomes;
-mod refusals;
 mod reports;
 mod sources;
 mod statuses;
@@ -17,8 +17,8 @@ mod words;
 mod writing;
 
 pub use calls::{strobe, strobe_on_text};
+pub use errors::Refusal;
 pub use outcomes::Outcome;
-pub use refusals::Refusal;
 pub use statuses::{
     STATUS_CHECK_FAILS, STATUS_HOLDS, STATUS_NO_MEMORY, STATUS_READ_FAULT, STATUS_SOURCE,
     STATUS_UNDECIDED, STATUS_UNFINISHED, STATUS_WORDS, STATUS_WRITE_FAULT,

@@ -1,32 +1,32 @@
 //! The lines of a report, each with its newline.
 ghost use Rattle.std.specs.Prelude.{◌≡◌, IfOk};
-ghost use Rattle.st_top.specs.Report.{check_line as check_line_of, thread_line as thread_line_of, count_line as count_line_of};
+ghost use Rattle.st_top.specs.Report.{check_line, thread_line, count_line};
 
 use crate::tallies::{count_fails, count_holds, count_other};
-use crate::texts::{EndText, SiteText, VerdictText};
+use crate::texts::{EndText, PlaceText, VerdictText};
 use st_events::{End, NoMemory, Site, Verdict};
 use std::alloc::Global;
 
 /// The line of a check. `event` is the number of its launch among the thread's own events, from 1.
-pub(crate) fn check_line(
+pub(crate) fn make_check_line(
     alloc: Global,
     thread: &[u8],
     event: usize,
-    site: Site,
+    place: Site,
     verdict: Verdict,
 ) -> Result<Vec<u8>, NoMemory>
-    ensures { IfOk result (λ line. line.items ≡ check_line_of thread.now event site verdict) }
+    ensures { IfOk result (λ line. line.items ≡ check_line thread.now event place verdict) }
 {
     let mut line = b"check ".to_vec(alloc)?;
     line.extend_from_slice(thread)?;
-    let rest = format!(in alloc; " {event} {} {}\n", SiteText(site), VerdictText(verdict))?;
+    let rest = format!(in alloc; " {event} {} {}\n", PlaceText(place), VerdictText(verdict))?;
     line.extend_from_slice(rest.as_bytes())?;
     Ok(line)
 }
 
 /// The line of a thread's end.
-pub(crate) fn thread_line(alloc: Global, thread: &[u8], end: End) -> Result<Vec<u8>, NoMemory>
-    ensures { IfOk result (λ line. line.items ≡ thread_line_of thread.now end) }
+pub(crate) fn make_thread_line(alloc: Global, thread: &[u8], end: End) -> Result<Vec<u8>, NoMemory>
+    ensures { IfOk result (λ line. line.items ≡ thread_line thread.now end) }
 {
     let mut line = b"thread ".to_vec(alloc)?;
     line.extend_from_slice(thread)?;
@@ -36,8 +36,8 @@ pub(crate) fn thread_line(alloc: Global, thread: &[u8], end: End) -> Result<Vec<
 }
 
 /// The line of the counts.
-pub(crate) fn count_line(alloc: Global, verdicts: &[Verdict]) -> Result<Vec<u8>, NoMemory>
-    ensures { IfOk result (λ line. line.items ≡ count_line_of verdicts.now) }
+pub(crate) fn make_count_line(alloc: Global, verdicts: &[Verdict]) -> Result<Vec<u8>, NoMemory>
+    ensures { IfOk result (λ line. line.items ≡ count_line verdicts.now) }
 {
     let checks = verdicts.len();
     let holds = count_holds(verdicts);

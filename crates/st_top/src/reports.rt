@@ -1,11 +1,11 @@
 //! The report of a run: which lines it has.
 ghost use Rattle.std.specs.Prelude.{◌≡◌, [], ◌∷◌, ◌++◌, IfOk, OnOk};
 ghost use Rattle.std.specs.List.{filter_map};
-ghost use Rattle.st_events.specs.History.{is_own as is_own_of, own_events as own_events_of};
-ghost use Rattle.st_top.specs.Report.{heads_of, site_of, launched as launched_by, check_lines as check_lines_of, end_lines, report_lines, joined};
+ghost use Rattle.st_events.specs.History.{is_own as is_own_of, own_events};
+ghost use Rattle.st_top.specs.Report.{heads_of, place_of_check, launched, check_lines, end_lines, report_lines, joined_pieces};
 ghost use Rattle.st_top.specs.LineBytes.{line_bytes, lines_text};
 
-use crate::lines::{check_line, count_line, thread_line};
+use crate::lines::{make_check_line, make_count_line, make_thread_line};
 use st_events::{End, Event, NoMemory, Ran, Site, Verdict};
 use st_small::ONLY_THREAD;
 use st_small_source::{Small, SmallStmt};
@@ -30,23 +30,23 @@ impl Model for Report {
 impl Report {
     /// The report of a run of the program: a line for each check that was launched, one for the end of the thread, and
     /// the counts of the verdicts.
-    #[tactic(auto, using(crate::proofs::ReportLemmas::report_of_one), unfolding(crate::specs::Report::report_lines))]
+    #[tactic(auto, using(crate::proofs::ReportLemmas::report_of_one_thread), unfolding(crate::specs::Report::report_lines))]
     pub fn make(alloc: Global, small: &Small, ran: &Ran) -> Result<Report, NoMemory>
         ensures { IfOk result (λ report. report ≡ report_lines (heads_of small.now) ran.now) }
     {
-        let sites = check_sites(alloc, &small.body)?;
-        let own = own_events(alloc, ONLY_THREAD, &ran.journal)?;
-        let mut lines = check_lines(alloc, &small.thread, &sites, &ran.verdicts, &own)?;
+        let places = collect_places(alloc, &small.body)?;
+        let own = collect_own_events(alloc, ONLY_THREAD, &ran.journal)?;
+        let mut lines = make_check_lines(alloc, &small.thread, &places, &ran.verdicts, &own)?;
         push_end(alloc, &mut lines, &small.thread, &ran.ends)?;
-        lines.push(count_line(alloc, &ran.verdicts)?)?;
+        lines.push(make_count_line(alloc, &ran.verdicts)?)?;
         Ok(Report { lines })
     }
 
     /// The lines, in order.
-    #[tactic(auto, using(crate::proofs::ReportLemmas::joined_lines))]
+    #[tactic(auto, using(crate::proofs::ReportLemmas::lines_have_the_joined_bytes))]
     pub fn lines(&self) -> &[Vec<u8>]
         ensures lines { line_bytes result.now ≡ self.now }
-        ensures text { lines_text result.now ≡ joined self.now }
+        ensures text { lines_text result.now ≡ joined_pieces self.now }
     {
         self.lines.as_slice()
     }
@@ -63,22 +63,24 @@ fn push_end(
         ≡ line_bytes lines.old.items ++ end_lines (thread.now ∷ []) ends.now) }
 {
     match ends {
-        [end, ..] => Ok(lines.push(thread_line(alloc, thread, *end)?)?),
+        [end, ..] => Ok(lines.push(make_thread_line(alloc, thread, *end)?)?),
         [] => Ok(()),
     }
 }
 
 /// The places of the check statements, in source order.
-fn check_sites(alloc: Global, body: &[SmallStmt]) -> Result<Vec<Site>, NoMemory>
-    ensures { IfOk result (λ sites. sites.items ≡ filter_map site_of body.now) }
+fn collect_places(alloc: Global, body: &[SmallStmt]) -> Result<Vec<Site>, NoMemory>
+    ensures { IfOk result (λ places. places.items ≡ filter_map place_of_check body.now) }
 {
-    let sites = body.iter().filter_map(|statement| site_of(*statement));
-    Ok(sites.collect(alloc)?)
+    let places = body
+        .iter()
+        .filter_map(|statement| place_of_check(*statement));
+    Ok(places.collect(alloc)?)
 }
 
 /// The place of a check statement; the others have none.
-fn site_of(statement: SmallStmt) -> Option<Site>
-    ensures { result ≡ site_of statement }
+fn place_of_check(statement: SmallStmt) -> Option<Site>
+    ensures { result ≡ place_of_check statement }
 {
     match statement {
         SmallStmt::Check { site, .. } => Some(site),
@@ -87,21 +89,21 @@ fn site_of(statement: SmallStmt) -> Option<Site>
 }
 
 /// The lines of the launches among a thread's own events, in their order.
-fn check_lines(
+fn make_check_lines(
     alloc: Global,
     thread: &[u8],
-    sites: &[Site],
+    places: &[Site],
     verdicts: &[Verdict],
     own: &[Event],
 ) -> Result<Vec<Vec<u8>>, NoMemory>
     ensures { IfOk result (λ lines. line_bytes lines.items
-        ≡ check_lines_of thread.now sites.now verdicts.now own.now) }
+        ≡ check_lines thread.now places.now verdicts.now own.now) }
 {
     let mut lines = Vec::new(alloc);
     for (before, event) in own.iter().enumerate() {
-        match launched(sites, verdicts, *event) {
-            Some((site, verdict)) => {
-                lines.push(check_line(alloc, thread, before + 1, site, verdict)?)?;
+        match find_launched(places, verdicts, *event) {
+            Some((place, verdict)) => {
+                lines.push(make_check_line(alloc, thread, before + 1, place, verdict)?)?;
             }
             None => {}
         }
@@ -110,8 +112,8 @@ fn check_lines(
 }
 
 /// The thread's own events, in their order.
-fn own_events(alloc: Global, thread: u8, journal: &[Event]) -> Result<Vec<Event>, NoMemory>
-    ensures { IfOk result (λ own. own.items ≡ own_events_of thread journal.now) }
+fn collect_own_events(alloc: Global, thread: u8, journal: &[Event]) -> Result<Vec<Event>, NoMemory>
+    ensures { IfOk result (λ own. own.items ≡ own_events thread journal.now) }
 {
     let own = journal.iter().filter(|event| is_own(thread, **event));
     Ok(own.copied().collect(alloc)?)
@@ -132,12 +134,12 @@ fn is_own(thread: u8, event: Event) -> bool
 }
 
 /// The place and the verdict of the check that the event launches, if it launches one.
-fn launched(sites: &[Site], verdicts: &[Verdict], event: Event) -> Option<(Site, Verdict)>
-    ensures { result ≡ launched_by sites.now verdicts.now event }
+fn find_launched(places: &[Site], verdicts: &[Verdict], event: Event) -> Option<(Site, Verdict)>
+    ensures { result ≡ launched places.now verdicts.now event }
 {
     match event {
         Event::Launch { number, site, .. } => {
-            let place = sites.get(usize::from(site))?;
+            let place = places.get(usize::from(site))?;
             let verdict = verdicts.get((number as usize).saturating_sub(1))?;
             Some((*place, *verdict))
         }

@@ -4,7 +4,7 @@ ghost use Rattle.st_io.specs.Device.{counts_of};
 ghost use Rattle.st_top.specs.Causes.{HasCause, IsBuildRefusal};
 ghost use Rattle.st_top.specs.Sources.{HasReport};
 
-use crate::refusals::Refusal;
+use crate::errors::Refusal;
 use crate::reports::Report;
 use st_events::Ran;
 use st_io::Files;

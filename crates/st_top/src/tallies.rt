@@ -1,7 +1,7 @@
 //! What verdicts come to: how many checks hold, fail, or have another verdict, and the status of a run.
 ghost use Rattle.std.specs.Prelude.{◌≡◌, count_by};
 ghost use Rattle.std.specs.List.{list_any};
-ghost use Rattle.st_top.specs.Report.{is_holds as is_holds_of, is_fails as is_fails_of, is_other as is_other_of};
+ghost use Rattle.st_top.specs.Report.{is_holds as is_holds_of, is_fails as is_fails_of, is_other_verdict};
 ghost use Rattle.st_top.specs.Report.{is_unfinished as is_unfinished_of, is_fault as is_fault_of, is_undecided as is_undecided_of, run_status as run_status_of};
 
 use crate::statuses::{STATUS_CHECK_FAILS, STATUS_HOLDS, STATUS_UNDECIDED, STATUS_UNFINISHED};
@@ -43,7 +43,7 @@ pub(crate) fn count_fails(verdicts: &[Verdict]) -> usize
 
 /// How many of the checks neither hold nor fail.
 pub(crate) fn count_other(verdicts: &[Verdict]) -> usize
-    ensures { result ≡ count_by is_other_of verdicts.now }
+    ensures { result ≡ count_by is_other_verdict verdicts.now }
 {
     verdicts
         .iter()

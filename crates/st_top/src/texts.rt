@@ -1,13 +1,13 @@
 //! Verdicts, ends and places as a report writes them.
 ghost use Rattle.std.specs.Prelude.{Some};
-ghost use Rattle.st_top.specs.Texts.{verdict_text, plain_text, end_text, site_text};
+ghost use Rattle.st_top.specs.Texts.{verdict_text, plain_text, end_text, place_text};
 
 use st_events::{End, Plain, Site, Verdict};
 use std::fmt;
 
 /// A place, as `LINE:COLUMN`.
 #[derive(Clone, Copy, Debug)]
-pub struct SiteText(pub Site);
+pub struct PlaceText(pub Site);
 
 /// A value of a check, as a report writes it.
 #[derive(Clone, Copy, Debug)]
@@ -21,8 +21,8 @@ pub struct VerdictText(pub Verdict);
 #[derive(Clone, Copy, Debug)]
 pub struct EndText(pub End);
 
-impl fmt::Display for SiteText {
-    ghost output = { λ text. Some (site_text text.0) };
+impl fmt::Display for PlaceText {
+    ghost output = { λ text. Some (place_text text.0) };
 
     fn fmt<W: fmt::Write>(&self, f: &mut fmt::Formatter<W>) -> fmt::Result {
         let Site { line, column } = self.0;
@@ -37,9 +37,9 @@ impl fmt::Display for PlainText {
         match self.0 {
             Plain::Holds => write!(f, "holds"),
             Plain::Fails => write!(f, "fails"),
-            Plain::Null(site) => write!(f, "fault null {}", SiteText(site)),
-            Plain::Divide(site) => write!(f, "fault divide {}", SiteText(site)),
-            Plain::Overflow(site) => write!(f, "fault overflow {}", SiteText(site)),
+            Plain::Null(place) => write!(f, "fault null {}", PlaceText(place)),
+            Plain::Divide(place) => write!(f, "fault divide {}", PlaceText(place)),
+            Plain::Overflow(place) => write!(f, "fault overflow {}", PlaceText(place)),
             Plain::Spent => write!(f, "spent"),
             Plain::Deep => write!(f, "deep"),
         }
@@ -63,12 +63,12 @@ impl fmt::Display for EndText {
     fn fmt<W: fmt::Write>(&self, f: &mut fmt::Formatter<W>) -> fmt::Result {
         match self.0 {
             End::Finished => write!(f, "finished"),
-            End::Null(site) => write!(f, "fault null {}", SiteText(site)),
-            End::Divide(site) => write!(f, "fault divide {}", SiteText(site)),
-            End::Overflow(site) => write!(f, "fault overflow {}", SiteText(site)),
-            End::HeapFull(site) => write!(f, "fault heap full {}", SiteText(site)),
+            End::Null(place) => write!(f, "fault null {}", PlaceText(place)),
+            End::Divide(place) => write!(f, "fault divide {}", PlaceText(place)),
+            End::Overflow(place) => write!(f, "fault overflow {}", PlaceText(place)),
+            End::HeapFull(place) => write!(f, "fault heap full {}", PlaceText(place)),
             End::EventsSpent => write!(f, "fault events spent"),
-            End::ProcDeep(site) => write!(f, "fault deep {}", SiteText(site)),
+            End::ProcDeep(place) => write!(f, "fault deep {}", PlaceText(place)),
         }
     }
 }

@@ -4,7 +4,7 @@ ghost use Rattle.std.specs.Option.{option_copied};
 ghost use Rattle.st_top.specs.Words.{named_file, texts};
 
 /// The file that the words name: they are `run` and a file, and nothing else.
-pub(crate) fn file_named(words: &[String]) -> Option<&str>
+pub(crate) fn find_named_file(words: &[String]) -> Option<&str>
     ensures { option_copied result ≡ named_file (texts words.now) }
 {
     match words {

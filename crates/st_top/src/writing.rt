@@ -1,14 +1,14 @@
 //! What is written: the lines of a report, or the one line of a refusal. Each line is put by one call.
 ghost use Rattle.std.specs.Prelude.{◌≡◌, ◌≤◌, Some, None, OnOk, OnErr};
 ghost use Rattle.st_io.specs.Counts.{RoseBy};
-ghost use Rattle.st_io.specs.Growth.{Grows, GrowsByPrefix};
+ghost use Rattle.st_io.specs.Growth.{Grows, GrowsByFront};
 ghost use Rattle.st_top.specs.LineBytes.{lines_text};
 ghost use Rattle.st_top.specs.Putting.{IsPut, IsLinePut};
-ghost use Rattle.st_top.specs.Refusals.{line_of, refused_status};
-ghost use Rattle.st_top.specs.Report.{joined};
+ghost use Rattle.st_top.specs.Refusals.{refusal_line, refusal_status};
+ghost use Rattle.st_top.specs.Report.{joined_pieces};
 
+use crate::errors::Refusal;
 use crate::outcomes::Outcome;
-use crate::refusals::Refusal;
 use crate::sources::Finished;
 use crate::statuses::STATUS_WRITE_FAULT;
 use crate::tallies::run_status;
@@ -17,7 +17,7 @@ use st_io::{Sink, SinkFault};
 /// Writes the report of a run.
 pub(crate) fn publish<S: Sink>(finished: Finished, out: &mut S) -> Outcome
     ensures ran { result.ran ≡ Some finished.ran }
-    ensures put { IsPut result.status finished.ran (joined finished.report)
+    ensures put { IsPut result.status finished.ran (joined_pieces finished.report)
         (S.written out.old) (S.written out.new) (S.faults out.old) (S.faults out.new) }
     ensures faults { S.faults out.old ≤ S.faults out.new }
 {
@@ -37,8 +37,8 @@ pub(crate) fn publish<S: Sink>(finished: Finished, out: &mut S) -> Outcome
 /// the same. The program calls it where there is no memory for the words that `strobe` takes.
 pub fn refuse<S: Sink>(refusal: Refusal, out: &mut S) -> Outcome
     ensures ran { result.ran ≡ None }
-    ensures status { result.status ≡ refused_status refusal }
-    ensures line { IsLinePut (line_of refusal) (S.written out.old) (S.written out.new) (S.faults out.old) (S.faults out.new) }
+    ensures status { result.status ≡ refusal_status refusal }
+    ensures line { IsLinePut (refusal_line refusal) (S.written out.old) (S.written out.new) (S.faults out.old) (S.faults out.new) }
     ensures faults { S.faults out.old ≤ S.faults out.new }
 {
     let _unheard = out.put(refusal.line());
@@ -53,7 +53,7 @@ fn put_lines<S: Sink>(out: &mut S, lines: &[Vec<u8>]) -> Result<(), SinkFault>
     ensures whole { OnOk result
         (Grows (S.written out.old) (lines_text lines.now) (S.written out.new)) }
     ensures part { OnErr result
-        (GrowsByPrefix (S.written out.old) (lines_text lines.now) (S.written out.new)) }
+        (GrowsByFront (S.written out.old) (lines_text lines.now) (S.written out.new)) }
     ensures failed { OnErr result (RoseBy 1 (S.faults out.old) (S.faults out.new)) }
     ensures faults { S.faults out.old ≤ S.faults out.new }
 {

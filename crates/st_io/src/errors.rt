@@ -1,6 +1,6 @@
 //! Why a file was not read, and why bytes were not written.
 ghost use Rattle.std.specs.Prelude.{◌≡◌};
-ghost use Rattle.st_io.specs.declared.faults.FilesFault.TheVariants.{Memory};
+ghost use Rattle.st_io.specs.declared.errors.FilesFault.TheVariants.{Memory};
 
 use std::alloc::AllocError;
 

@@ -1,6 +1,6 @@
 //! Why a call can come to no run: each refusal has its line and its status.
 ghost use Rattle.std.specs.Prelude.{◌≡◌};
-ghost use Rattle.st_top.specs.Refusals.{line_of, refused_status, files_refusal, source_refusal};
+ghost use Rattle.st_top.specs.Refusals.{refusal_line, refusal_status, files_refusal, source_refusal};
 
 use crate::statuses::{STATUS_NO_MEMORY, STATUS_READ_FAULT, STATUS_SOURCE, STATUS_WORDS};
 use st_events::NoMemory;
@@ -25,7 +25,7 @@ pub enum Refusal {
 impl Refusal {
     /// The line that is written, with its newline.
     pub fn line(self) -> &'static [u8]
-        ensures { result.now ≡ line_of self }
+        ensures { result.now ≡ refusal_line self }
     {
         match self {
             Refusal::Words => b"words refused\n",
@@ -38,7 +38,7 @@ impl Refusal {
 
     /// The status of a call that was refused.
     pub fn status(self) -> u8
-        ensures { result ≡ refused_status self }
+        ensures { result ≡ refusal_status self }
     {
         match self {
             Refusal::Words => STATUS_WORDS,
@@ -73,7 +73,7 @@ impl From<SmallError> for Refusal {
 }
 
 impl From<NoMemory> for Refusal {
-    ghost use Rattle.st_top.specs.declared.refusals.Refusal.TheVariants.{NoMemory as NoMemoryRefusal};
+    ghost use Rattle.st_top.specs.declared.errors.Refusal.TheVariants.{NoMemory as NoMemoryRefusal};
 
     ghost from_gives = { λ _ refusal. refusal ≡ NoMemoryRefusal };
 
