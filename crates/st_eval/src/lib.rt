@@ -1,0 +1,9 @@
+//! Expressions as straight code: a list of instructions for a stack of words, in which a branch is a count of instructions that
+//! are passed over. The one call is of laws, and computes nothing.
+#![tactic(auto)]
+
+mod instructions;
+mod laws;
+
+pub use instructions::Instruction;
+pub use laws::laws_of_code;
