@@ -1,0 +1,52 @@
+-- Faults one after another, and the first of them.
+use Rattle.std.proofs.Common.{◌≡◌, List, [], ◌∷◌, ◌++◌, Result, Ok, Err, IsErrAnd, refl, ap, sym, ◌∙◌, subst}
+use Rattle.st_types.specs.declared.errors.TypeError.{TypeError}
+use Rattle.st_types.specs.declared.errors.TypeError.TheVariants.{Memory, UnknownName, Twice, Mismatch, WrongCount, NotPure, NotHere}
+use Rattle.st_types.specs.Checked.{Checked, verdict, ◌>>=◌, Fails, Gives}
+
+-- a fault that is told is the one that is expected
+pub fails_so : {B : Type 0} (e : TypeError) (expected : Checked B) → expected ≡ Err e → Fails e expected
+fails_so Memory expected h = tt
+fails_so (UnknownName at) expected h = h
+fails_so (Twice at) expected h = h
+fails_so (Mismatch at wanted found) expected h = h
+fails_so (WrongCount at) expected h = h
+fails_so (NotPure at) expected h = h
+fails_so (NotHere at) expected h = h
+
+-- faults, and others after them
+pub verdict_append : {A : Type 0} (xs ys : List TypeError) (a : A) → verdict (xs ++ ys) a ≡ verdict xs (tt {0}) >>= (λ _. verdict ys a)
+verdict_append [] ys a = refl
+verdict_append (x ∷ xs) ys a = refl
+
+-- the verdict of another value
+pub same_fault : {A B : Type 0} (xs : List TypeError) (a : A) (b : B) (e : TypeError) → verdict xs a ≡ Err e → verdict xs b ≡ Err e
+same_fault [] a b e h = cc
+same_fault (x ∷ xs) a b e h = let same : x ≡ e = cc in ap Err same
+
+-- no fault among the first, and one among the others
+pub second_fails : {A B : Type 0} (view : A → B) (xs ys : List TypeError) (b : B) (e : TypeError) (result : Checked A) → Ok (tt {0}) ≡ verdict xs (tt {0}) → Err e ≡ verdict ys (tt {0}) → result ≡ Err e
+    → Gives view result (verdict (xs ++ ys) b)
+second_fails view [] ys b e result h k r = subst (λ (x : Checked _). Gives view x (verdict ys b)) (sym r) (fails_so e (verdict ys b) (same_fault ys (tt {0}) b e (sym k)))
+second_fails view (x ∷ xs) ys b e result h k r = cc
+
+-- a fault that is handed on
+pub handed_on : {A B : Type 0} (view : A → B) (xs : List TypeError) (b : B) (e : TypeError) (result : Checked A) → Err e ≡ verdict xs (tt {0}) → IsErrAnd result (λ x. x ≡ e)
+    → Gives view result (verdict xs b)
+handed_on view xs b e (Ok a) k r = elim r [ ]
+handed_on view xs b e (Err x) k r = fails_so x (verdict xs b) (same_fault xs (tt {0}) b x (sym k ∙ ap Err (sym r)))
+
+-- where the first of two fails, both do
+pub fails_next : {A B C : Type 0} (view : C → B) (p : Checked A) (f : A → Checked B) (e : TypeError) (result : Checked C) → Fails e p → IsErrAnd result (λ x. x ≡ e)
+    → Gives view result (p >>= f)
+fails_next view p f e (Ok a) h r = elim r [ ]
+fails_next view p f e (Err x) h r = subst (λ y. Fails y (p >>= f)) (sym r) (later e h)
+  where
+    later : (e : TypeError) → Fails e p → Fails e (p >>= f)
+    later Memory h = tt
+    later (UnknownName at) h = ap (λ q. q >>= f) h
+    later (Twice at) h = ap (λ q. q >>= f) h
+    later (Mismatch at wanted found) h = ap (λ q. q >>= f) h
+    later (WrongCount at) h = ap (λ q. q >>= f) h
+    later (NotPure at) h = ap (λ q. q >>= f) h
+    later (NotHere at) h = ap (λ q. q >>= f) h

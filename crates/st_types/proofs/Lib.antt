@@ -1,0 +1,6 @@
+pub mod ArgumentLemmas
+pub mod CallLemmas
+pub mod CheckedLemmas
+pub mod EachLemmas
+pub mod ScopeLemmas
+pub mod TypedEquations

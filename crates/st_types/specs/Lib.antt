@@ -1,0 +1,12 @@
+pub mod Checked
+pub mod Judged
+pub mod Kinds
+pub mod Limits
+pub mod Names
+pub mod Nodes
+pub mod Rules
+pub mod Scopes
+pub mod Statements
+pub mod Stepwise
+pub mod Typing
+pub mod Walks

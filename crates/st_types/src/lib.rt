@@ -1,0 +1,27 @@
+//! Types: which trees are programs.
+#![tactic(auto)]
+
+mod arguments;
+mod assignments;
+mod calls;
+mod checking;
+mod declarations;
+mod errors;
+mod expressions;
+mod kinds;
+mod limits;
+mod names;
+mod operators;
+mod scopes;
+mod statements;
+mod typed_programs;
+mod values;
+mod walks;
+
+pub use checking::check_types;
+pub use errors::{TypeError, Wanted};
+pub use kinds::Found;
+pub use limits::{MOST_NESTING, MOST_SOURCE_CLASSES};
+pub use names::Named;
+pub use typed_programs::{Counts, Typed};
+pub use walks::Launched;

@@ -1,0 +1,98 @@
+//! A program whose types were checked.
+ghost use Rattle.std.specs.Prelude.{◌≡◌, ◌<◌, ◌≤◌, length, slice_get, Some, option_map};
+ghost use Rattle.st_types.specs.Limits.{IsWithinCounts};
+
+use st_ast::Program;
+use st_events::{MOST_CHECKS, MOST_MUTATORS, Shape, Site};
+use st_program::Resolved;
+
+/// How many of each a program has.
+#[derive(Clone, Copy, Debug, PartialEq, Eq)]
+pub struct Counts {
+    pub classes: u16,
+    pub preds: u16,
+    pub procs: u16,
+    pub threads: u16,
+    pub checks: u16,
+}
+
+/// A tree that keeps the rules, the same with numbers in the place of names, and its shape. Only `check_types` makes one.
+#[derive(Debug, Drop)]
+pub struct Typed {
+    pub(crate) program: Program,
+    pub(crate) resolved: Resolved,
+    pub(crate) shape: Shape,
+    ghost few: { IsWithinCounts program resolved },
+}
+
+impl Typed {
+    /// The shape of the program.
+    pub fn shape(&self) -> &Shape
+        ensures { result.now ≡ self.now.shape }
+    {
+        &self.shape
+    }
+
+    /// The tree.
+    pub fn program(&self) -> &Program
+        ensures { result.now ≡ self.now.program }
+    {
+        &self.program
+    }
+
+    /// The program with numbers in the place of names.
+    pub fn resolved(&self) -> &Resolved
+        ensures { result.now ≡ self.now.resolved }
+    {
+        &self.resolved
+    }
+
+    /// How many threads there are.
+    pub fn threads(&self) -> u8
+        ensures count { result ≡ length self.now.program.threads }
+        ensures few { result ≤ MOST_MUTATORS }
+    {
+        self.program.threads.len() as u8
+    }
+
+    /// The name of a thread, in ASCII.
+    pub fn thread_name(&self, m: u8) -> &[u8]
+        requires { m < length self.now.program.threads }
+        ensures { option_map (λ t. t.name) (slice_get self.now.program.threads m) ≡ Some result.now }
+    {
+        self.program.threads.as_slice()[m as usize].name.as_slice()
+    }
+
+    /// How many check statements there are.
+    pub fn checks(&self) -> u16
+        ensures count { result ≡ length self.now.resolved.checks }
+        ensures few { result ≤ MOST_CHECKS }
+    {
+        self.resolved.checks.len() as u16
+    }
+
+    /// The place of the word `check` of a check statement.
+    pub fn check_site(&self, site: u16) -> Site
+        requires { site < length self.now.resolved.checks }
+        ensures { option_map (λ c. c.at) (slice_get self.now.resolved.checks site) ≡ Some result }
+    {
+        self.resolved.checks.as_slice()[site as usize].at
+    }
+
+    /// How many of each the program has.
+    pub fn counts(&self) -> Counts
+        ensures classes { result.classes ≡ length self.now.program.classes }
+        ensures preds { result.preds ≡ length self.now.program.preds }
+        ensures procs { result.procs ≡ length self.now.program.procs }
+        ensures threads { result.threads ≡ length self.now.program.threads }
+        ensures checks { result.checks ≡ length self.now.resolved.checks }
+    {
+        Counts {
+            classes: self.program.classes.len() as u16,
+            preds: self.program.preds.len() as u16,
+            procs: self.program.procs.len() as u16,
+            threads: self.program.threads.len() as u16,
+            checks: self.resolved.checks.len() as u16,
+        }
+    }
+}
