@@ -1,4 +1,13 @@
 //! The accesses that the steps of the gate make, each with the word that it may write. Here each is proved to keep the rule.
+//!
+//! Why each keeps it, whatever the other threads did before:
+//! - A flag is written by its own seat alone, since no two seats have one number. So it says that seat's phase.
+//! - The closing word is taken only where it is 0, and given back only by who has it, so there is one closer at a time.
+//! - A seat goes Inside only by a load that finds the closing word 0. At that moment nobody closes, so no list of flags seen clear is
+//!   spoiled by it.
+//! - A closer that finds a flag 0 knows that this number is not Inside at that moment, and, by the line before, that it stays out until the
+//!   closing word is 0 again. So the closer is alone once it saw every other flag 0.
+//! - The moment of a step knows the whole journal. A closer that goes on has seen it then, and while it is alone nobody adds to it.
 ghost use Rattle.std.specs.Prelude.{◌≡◌, ◌+◌, ◌≤◌, ◌⊎◌, Some};
 ghost use Rattle.st_rule.specs.declared.views.Phase.TheVariants.{Outside, Entering, Inside, Closing, Alone};
 ghost use Rattle.st_rule.specs.Plays.{Finds, FindsAndLearns};

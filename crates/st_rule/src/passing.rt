@@ -1,4 +1,7 @@
 //! Seats that are handed out and taken back. Each costs one load of the closing word, which tells nothing.
+//!
+//! Why no two seats have one number: only the main thread's seat is split, it counts how many it handed out, and each new seat has the next
+//! number. A seat is joined only where it is Outside, so no flag and no closing word is left of a number that nobody has any more.
 ghost use Rattle.std.specs.Prelude.{◌≡◌, ◌<◌, [], IfOk, OnOk, OnErr};
 ghost use Rattle.st_rule.specs.declared.views.Phase.TheVariants.{Outside};
 ghost use Rattle.st_rule.specs.declared.views.View.TheVariants.{Gone};

@@ -1,4 +1,5 @@
-//! The steps of the gate, each one atomic access to one word.
+//! The steps of the gate, each one atomic access to one word. What a step asks, its own seat's view shows; what it answers is by the
+//! word that it found. Who may call which, and why that is enough to be alone, is told at the head of `accesses.rt`.
 ghost use Rattle.std.specs.Prelude.{◌≡◌, ◌≤◌, ◌⊎◌, ◌↔◌, IsTrue, Some};
 ghost use Rattle.st_rule.specs.declared.views.Phase.TheVariants.{Outside, Entering, Inside, Closing, Alone};
 ghost use Rattle.st_rule.specs.Plays.{Finds, FindsAndLearns};
