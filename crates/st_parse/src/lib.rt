@@ -25,3 +25,6 @@ pub use errors::{ParseError, What};
 pub use laws::{one_fault, one_tree};
 pub use limits::{MOST_OPEN_BRACES, MOST_SOURCE_CLASSES, MOST_TOKENS_BETWEEN};
 pub use parser::parse;
+
+#[cfg(test)]
+mod tests;
