@@ -1,5 +1,6 @@
 -- The first of a list that is in excess.
-use Rattle.std.proofs.Common.{◌≡◌, ◌≢◌, ℕ, zero, suc, ◌+◌, ◌<◌, ◌≤◌, List, [], ◌∷◌, ◌++◌, length, fold, drop, get_or, Option, Some, None, refl, ap, sym, subst, ◌∙◌, append_assoc, add-one, drop-cons, arith}
+use Rattle.std.proofs.Common.{◌≡◌, ◌≢◌, ℕ, zero, suc, ◌+◌, ◌<◌, ◌≤◌, List, [], ◌∷◌, ◌++◌, length, fold}
+use Rattle.std.proofs.Common.{drop, get_or, Option, Some, None, refl, ap, sym, subst, ◌∙◌, append_assoc, add-one, drop-cons, arith}
 use Rattle.st_parse.specs.Firsts.{or_else, first_from}
 use Rattle.st_parse.specs.Firsts as firsts
 

@@ -56,7 +56,8 @@ place_of_tokens text (token ∷ tokens) = refl
 dropped : (text : List ℕ) (k : ℕ) (tokens : List Token) → drop k (terminals_of text tokens) ≡ terminals_of text (drop k tokens)
 dropped text k tokens = drop-map (terminal_of text) k tokens
 
-unexpected_meant : (text : List ℕ) (tokens : List Token) (left : List Terminal) → IsWithinTokenLimits (terminals_of text tokens) → LeftAt (terminals_of text tokens) left → StopsUnexpected text tokens (place_of text left)
+unexpected_meant : (text : List ℕ) (tokens : List Token) (left : List Terminal) → IsWithinTokenLimits (terminals_of text tokens)
+    → LeftAt (terminals_of text tokens) left → StopsUnexpected text tokens (place_of text left)
 unexpected_meant text tokens left few h = record {
   few_tokens = few;
   unexpected = record {

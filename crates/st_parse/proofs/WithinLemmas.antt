@@ -1,5 +1,6 @@
 -- Where no token is above a limit, the readers have depth enough.
-use Rattle.std.proofs.Common.{◌≡◌, ℕ, zero, suc, pred, ◌+◌, ◌-◌, ◌≤◌, ◌<◌, Bool, true, false, cond, nat_lt, if◌then◌else◌, List, [], ◌∷◌, length, Option, Some, None, refl, ap, sym, subst, ◌∙◌, arith, rules}
+use Rattle.std.proofs.Common.{◌≡◌, ℕ, zero, suc, pred, ◌+◌, ◌-◌, ◌≤◌, ◌<◌, Bool, true, false, cond, nat_lt}
+use Rattle.std.proofs.Common.{if◌then◌else◌, List, [], ◌∷◌, length, Option, Some, None, refl, ap, sym, subst, ◌∙◌, arith, rules}
 use Rattle.st_events.specs.declared.events.Site.{Site}
 use Rattle.st_parse.specs.declared.limits.TheConstants.{MOST_OPEN_BRACES, MOST_TOKENS_BETWEEN}
 use Rattle.st_parse.specs.declared.sorts.Sort.{Sort}

@@ -1,5 +1,6 @@
 -- The locals that expressions name, one after another.
-use Rattle.std.proofs.Common.{◌≡◌, ℕ, ◌+◌, ◌<◌, ◌≤◌, suc, List, [], ◌∷◌, ◌++◌, map, length, drop, get_or, Option, Some, None, slice_get, refl, ap, sym, ◌∙◌, add-one, drop-cons, append_assoc, append-nil, arith}
+use Rattle.std.proofs.Common.{◌≡◌, ℕ, ◌+◌, ◌<◌, ◌≤◌, suc, List, [], ◌∷◌, ◌++◌, map, length, drop}
+use Rattle.std.proofs.Common.{get_or, Option, Some, None, slice_get, refl, ap, sym, ◌∙◌, add-one, drop-cons, append_assoc, append-nil, arith}
 use Rattle.std.specs.List.{flat_map}
 use Rattle.std.specs.Prelude.{option_map}
 use Rattle.std.proofs.lemmas.List.{drop_all, map-append}
@@ -40,7 +41,8 @@ mentions_of_call name args site = ap mentions (sym (rolls-Call name args site)) 
 
 pub mentions_of_binary : (op : Op) (left right : Expr) (site : Site) → mentions (Binary op left right site) ≡ mentions left ++ mentions right
 mentions_of_binary op left right site =
-    ap mentions (sym (rolls-Binary op left right site)) ∙ fold-roll-Expr (List (List ℕ)) mentions_layer (Expr-F.Binary op left right site) ∙ ap (λ names. mentions left ++ names) (append-nil (mentions right))
+    ap mentions (sym (rolls-Binary op left right site)) ∙ fold-roll-Expr (List (List ℕ)) mentions_layer (Expr-F.Binary op left right site)
+    ∙ ap (λ names. mentions left ++ names) (append-nil (mentions right))
 
 pub mentions_of_cond : (test left right : Expr) (site : Site) → mentions (Cond test left right site) ≡ mentions test ++ (mentions left ++ mentions right)
 mentions_of_cond test left right site =
@@ -48,7 +50,8 @@ mentions_of_cond test left right site =
     ∙ ap (λ names. mentions test ++ (mentions left ++ names)) (append-nil (mentions right))
 
 -- the locals that two expressions name, and three
-pub after_two : (locals : List Local) (left right : List (List ℕ)) (old middle new : List ℕ) → middle ≡ numbers_of locals left old → new ≡ numbers_of locals right middle → new ≡ numbers_of locals (left ++ right) old
+pub after_two : (locals : List Local) (left right : List (List ℕ)) (old middle new : List ℕ)
+    → middle ≡ numbers_of locals left old → new ≡ numbers_of locals right middle → new ≡ numbers_of locals (left ++ right) old
 after_two locals left right old middle new a b = b ∙ ap (numbers_of locals right) a ∙ sym (numbers_of_append locals left right old)
 
 -- what stands for the number at the index joins what is in front

@@ -25,7 +25,8 @@ same_fault [] a b e h = cc
 same_fault (x ∷ xs) a b e h = let same : x ≡ e = cc in ap Err same
 
 -- no fault among the first, and one among the others
-pub second_fails : {A B : Type 0} (view : A → B) (xs ys : List TypeError) (b : B) (e : TypeError) (result : Checked A) → Ok (tt {0}) ≡ verdict xs (tt {0}) → Err e ≡ verdict ys (tt {0}) → result ≡ Err e
+pub second_fails : {A B : Type 0} (view : A → B) (xs ys : List TypeError) (b : B) (e : TypeError) (result : Checked A)
+    → Ok (tt {0}) ≡ verdict xs (tt {0}) → Err e ≡ verdict ys (tt {0}) → result ≡ Err e
     → Gives view result (verdict (xs ++ ys) b)
 second_fails view [] ys b e result h k r = subst (λ (x : Checked _). Gives view x (verdict ys b)) (sym r) (fails_so e (verdict ys b) (same_fault ys (tt {0}) b e (sym k)))
 second_fails view (x ∷ xs) ys b e result h k r = cc

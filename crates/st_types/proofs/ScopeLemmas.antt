@@ -24,14 +24,17 @@ of_index : (locals : List code_local.Local) (index : Option ℕ) →
 of_index locals None = refl
 of_index locals (Some n) = rw (slice_get-map local_view locals n) (same n (slice_get locals n))
   where
-    same : (n : ℕ) (l : Option code_local.Local) → option_map {U = Named} (λ (l : Local). record { number = n; kind = l.kind }) (option_map local_view l) ≡ option_map {U = Named} (λ l. record { number = n; kind = l.kind }) l
+    same : (n : ℕ) (l : Option code_local.Local) → option_map {U = Named} (λ (l : Local). record { number = n; kind = l.kind }) (option_map local_view l)
+        ≡ option_map {U = Named} (λ l. record { number = n; kind = l.kind }) l
     same n None = refl
     same n (Some l) = refl
 
 pub local_of_views : (locals : List code_local.Local) (name : List ℕ) →
-    find_local (map local_view locals) name ≡ option_and_then (λ n. option_map (λ l. record { number = n; kind = l.kind }) (slice_get locals n)) (position (λ l. l.is_known && bytes_eq l.name.now name) locals)
+    find_local (map local_view locals) name ≡
+    option_and_then (λ n. option_map (λ l. record { number = n; kind = l.kind }) (slice_get locals n)) (position (λ l. l.is_known && bytes_eq l.name.now name) locals)
 local_of_views locals name =
-    ap (option_and_then (λ n. option_map (λ l. record { number = n; kind = l.kind }) (slice_get (map local_view locals) n))) (position_of_map (λ l. l.is_known && bytes_eq l.name name) local_view locals)
+    ap (option_and_then (λ n. option_map (λ l. record { number = n; kind = l.kind }) (slice_get (map local_view locals) n)))
+    (position_of_map (λ l. l.is_known && bytes_eq l.name name) local_view locals)
     ∙ of_index locals (position (λ l. l.is_known && bytes_eq l.name.now name) locals)
 
 -- a local that is found by its index

@@ -65,7 +65,8 @@ launched r e seen site = record r {
 
 -- the value of a `var`, whose name is new and whose type is one
 abbrev pub var_given : ScopeView → List ℕ → TypeName → Value → Site → Checked Given
-var_given s name kind value site = verdict (asks_new (is_local s.locals name) site ++ asks_type s.program kind) (tt {0}) >>= (λ _. typed_value s value >>= (λ v. verdict (asks (kind_of s.program kind) v.site v.kind) v))
+var_given s name kind value site = verdict (asks_new (is_local s.locals name) site ++ asks_type s.program kind) (tt {0})
+    >>= (λ _. typed_value s value >>= (λ v. verdict (asks (kind_of s.program kind) v.site v.kind) v))
 
 -- an assignment
 abbrev pub assigned : ScopeView → List ℕ → Value → Site → Checked Command

@@ -23,7 +23,8 @@ returns-in_err-field-clause-reads c =
 pub loop-alloc-preserved : goal.loop-alloc-preserved
 unfolding sees same_sort
 loop-alloc-preserved c = record {
-  same = c.loop-alloc.invariant.same ∙ turn_taken (is_sort sort.Name) (one_more spec.field) c.loop-alloc.found c.push.new.self c.loop-alloc.cursor c.field.new.cursor (sym c.sees.ensures ∙ c.loop-alloc-test.true)
+  same = c.loop-alloc.invariant.same ∙ turn_taken (is_sort sort.Name) (one_more spec.field) c.loop-alloc.found c.push.new.self c.loop-alloc.cursor c.field.new.cursor
+      (sym c.sees.ensures ∙ c.loop-alloc-test.true)
       (more_made spec.field c.loop-alloc.found c.push.new.self c.in_ok-field.field-0 c.loop-alloc.cursor c.field.new.cursor c.in_ok-field.ensures.reads c.in_ok-push.ensures.ok)
       c.in_ok-field.ensures.shorter;
   no_longer = omega (arith, c.loop-alloc.invariant.no_longer, c.in_ok-field.ensures.shorter);

@@ -69,7 +69,8 @@ unfolding sees same_sort
 series-returns-in_err-after_comma-clause-reads n c =
     handed_on (λ found. found) _ c.from_residual-in_err-after_comma.result _ _ c.from_residual-in_err-after_comma.ensures.1
     (loop_stops (is_sort sort.Comma) (one_more (after_comma (nested c.args.depth level.Whole))) c.loop-alloc.found c.loop-alloc.cursor _ _ _
-    refl c.loop-alloc.invariant.same (sym c.sees.ensures ∙ c.loop-alloc-test.true) (more_stops (after_comma (nested c.args.depth level.Whole)) c.loop-alloc.found c.loop-alloc.cursor c.after_comma.new.cursor _ c.in_err-after_comma.ensures.reads))
+    refl c.loop-alloc.invariant.same (sym c.sees.ensures ∙ c.loop-alloc-test.true)
+    (more_stops (after_comma (nested c.args.depth level.Whole)) c.loop-alloc.found c.loop-alloc.cursor c.after_comma.new.cursor _ c.in_err-after_comma.ensures.reads))
 
 pub series-loop-alloc-preserved : goal.series-loop-alloc-preserved
 unfolding sees same_sort
@@ -77,7 +78,8 @@ series-loop-alloc-preserved n c = record {
   same = c.loop-alloc.invariant.same
       ∙ turn_taken (is_sort sort.Comma) (one_more (after_comma (nested c.args.depth level.Whole))) c.loop-alloc.found c.push-in-loop-alloc.new.self
       c.loop-alloc.cursor c.after_comma.new.cursor (sym c.sees.ensures ∙ c.loop-alloc-test.true)
-      (more_made (after_comma (nested c.args.depth level.Whole)) c.loop-alloc.found c.push-in-loop-alloc.new.self c.in_ok-after_comma.field-0 c.loop-alloc.cursor c.after_comma.new.cursor c.in_ok-after_comma.ensures.reads c.in_ok-push-2.ensures.ok) c.in_ok-after_comma.ensures.shorter;
+      (more_made (after_comma (nested c.args.depth level.Whole)) c.loop-alloc.found c.push-in-loop-alloc.new.self c.in_ok-after_comma.field-0
+      c.loop-alloc.cursor c.after_comma.new.cursor c.in_ok-after_comma.ensures.reads c.in_ok-push-2.ensures.ok) c.in_ok-after_comma.ensures.shorter;
   shorter = omega (arith, c.loop-alloc.invariant.shorter, c.in_ok-after_comma.ensures.shorter);
 }
 

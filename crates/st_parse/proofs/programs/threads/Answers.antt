@@ -20,7 +20,8 @@ returns-in_err-thread c =
 pub loop-alloc-preserved : goal.loop-alloc-preserved
 unfolding sees same_sort
 loop-alloc-preserved c =
-    c.loop-alloc.invariant ∙ turn_taken (is_sort sort.Thread) (one_more spec.thread) c.loop-alloc.found c.push.new.self c.loop-alloc.cursor c.thread.new.cursor (sym c.sees.ensures ∙ c.loop-alloc-test.true)
+    c.loop-alloc.invariant ∙ turn_taken (is_sort sort.Thread) (one_more spec.thread) c.loop-alloc.found c.push.new.self c.loop-alloc.cursor c.thread.new.cursor
+    (sym c.sees.ensures ∙ c.loop-alloc-test.true)
     (more_made spec.thread c.loop-alloc.found c.push.new.self c.in_ok-thread.field-0 c.loop-alloc.cursor c.thread.new.cursor c.in_ok-thread.ensures.reads c.in_ok-push.ensures.ok)
     c.in_ok-thread.ensures.shorter
 

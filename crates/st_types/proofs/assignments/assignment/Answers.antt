@@ -3,4 +3,5 @@ use Rattle.st_types.proofs.CheckedLemmas.{handed_on}
 use Rattle.st_types.proofs.assignments.assignment.Goals as goal
 
 pub returns-in_err-ask : goal.returns-in_err-ask
-returns-in_err-ask c = rw (← c.in-Some.ensures, c.in_ok-value.ensures) (handed_on command_of _ _ c.in_err-ask.field-0.0 c.from_residual-in_err-ask.result c.in_err-ask.ensures c.from_residual-in_err-ask.ensures.1)
+returns-in_err-ask c = rw (← c.in-Some.ensures, c.in_ok-value.ensures) (handed_on command_of _ _
+    c.in_err-ask.field-0.0 c.from_residual-in_err-ask.result c.in_err-ask.ensures c.from_residual-in_err-ask.ensures.1)
