@@ -45,7 +45,8 @@ one_more (f ∷ fa) fs a seen = refl
 each_is : (s : ScopeView) (es : List ((e : Expr) × IsSo s e)) →
     each_of (map (typed s) (map (λ e. e.0) es)) ≡ verdict (in_order (map (λ j. j.faults) (map (judged s) (map (λ e. e.0) es)))) (map (λ j. j.seen) (map (judged s) (map (λ e. e.0) es)))
 each_is s [] = refl
-each_is s (e ∷ es) = rw (e.1, each_is s es) (one_more (judged s e.0).faults (in_order (map (λ j. j.faults) (map (judged s) (map (λ e. e.0) es)))) (judged s e.0).seen (map (λ j. j.seen) (map (judged s) (map (λ e. e.0) es))))
+each_is s (e ∷ es) = rw (e.1, each_is s es) (one_more (judged s e.0).faults (in_order (map (λ j. j.faults) (map
+    (judged s) (map (λ e. e.0) es)))) (judged s e.0).seen (map (λ j. j.seen) (map (judged s) (map (λ e. e.0) es))))
 
 -- the operands that a layer holds, each with its proof
 abbrev bare : (s : ScopeView) → Expr-F ((e : Expr) × IsSo s e) → Expr-F Expr
@@ -58,14 +59,17 @@ layer_is s (Expr-F.Number value site) = refl
 layer_is s (Expr-F.Truth value site) = refl
 layer_is s (Expr-F.Null site) = refl
 layer_is s (Expr-F.Local name site) = refl
-layer_is s (Expr-F.Call name args site) = rw (each_is s args) (all_operands s (λ seen. Expr-F.Call name seen site) (in_order (map (λ j. j.faults) (map (judged s) (map (λ e. e.0) args)))) (map (λ j. j.seen) (map (judged s) (map (λ e. e.0) args))))
+layer_is s (Expr-F.Call name args site) = rw (each_is s args) (all_operands s (λ seen. Expr-F.Call name seen site) (in_order
+    (map (λ j. j.faults) (map (judged s) (map (λ e. e.0) args)))) (map (λ j. j.seen) (map (judged s) (map (λ e. e.0) args))))
 layer_is s (Expr-F.Shared name site) = refl
 layer_is s (Expr-F.Field object name site) = rw object.1 (one_operand s (λ o. Expr-F.Field o name site) (judged s object.0).faults (judged s object.0).seen)
 layer_is s (Expr-F.Paren inner site) = rw inner.1 (one_operand s (λ i. Expr-F.Paren i site) (judged s inner.0).faults (judged s inner.0).seen)
 layer_is s (Expr-F.Not inner site) = rw inner.1 (one_operand s (λ i. Expr-F.Not i site) (judged s inner.0).faults (judged s inner.0).seen)
 layer_is s (Expr-F.Minus inner site) = rw inner.1 (one_operand s (λ i. Expr-F.Minus i site) (judged s inner.0).faults (judged s inner.0).seen)
-layer_is s (Expr-F.Binary op left right site) = rw (left.1, right.1) (two_operands s (λ l r. Expr-F.Binary op l r site) (judged s left.0).faults (judged s right.0).faults (judged s left.0).seen (judged s right.0).seen)
-layer_is s (Expr-F.Cond test left right site) = rw (test.1, left.1, right.1) (three_operands s (λ t l r. Expr-F.Cond t l r site) (judged s test.0).faults (judged s left.0).faults (judged s right.0).faults (judged s test.0).seen (judged s left.0).seen (judged s right.0).seen)
+layer_is s (Expr-F.Binary op left right site) = rw (left.1, right.1) (two_operands s (λ l r. Expr-F.Binary op l r site)
+    (judged s left.0).faults (judged s right.0).faults (judged s left.0).seen (judged s right.0).seen)
+layer_is s (Expr-F.Cond test left right site) = rw (test.1, left.1, right.1) (three_operands s (λ t l r. Expr-F.Cond t l r site)
+    (judged s test.0).faults (judged s left.0).faults (judged s right.0).faults (judged s test.0).seen (judged s left.0).seen (judged s right.0).seen)
 
 -- an expression, up to its first fault
 pub typed_is_first : (s : ScopeView) (e : Expr) → typed s e ≡ verdict (judged s e).faults (judged s e).seen
