@@ -357,7 +357,7 @@ fn locks_by<R: Threads + Wait + Sync + Clock>(rt: &R, four: bool) -> Result<Best
 
 /// One pass of the gate: the times of each row.
 #[derive(Clone, Copy, Debug)]
-struct Pass {
+struct Times {
     close: u64,
     one: u64,
     two: u64,
@@ -369,7 +369,7 @@ fn pass<J: Judge + Sync + Send, R: Threads + Wait + Sync + Clock>(
     alloc: Global,
     shared: &Shared<J>,
     mut main: MutSeat<J>,
-) -> Result<Pass, Failed>
+) -> Result<Times, Failed>
     requires table { IsSeatOf J.meant shared.now main }
     requires first { main.view ≡ first_view (terms_of J.meant shared.now) }
     requires mutators { (sizes_of shared.now).mutators ≡ 4 }
@@ -388,7 +388,7 @@ fn pass<J: Judge + Sync + Send, R: Threads + Wait + Sync + Clock>(
     let start = Instant::now(rt)?;
     visit_four(rt, shared, front, back, ROUNDS);
     let four = nanos_since(rt, start)?;
-    Ok(Pass {
+    Ok(Times {
         close,
         one: one_nanos,
         two,
@@ -411,7 +411,7 @@ fn sizes() -> Sizes
 }
 
 /// A pass at a table of its own.
-fn fresh_pass<R: Threads + Wait + Sync + Clock>(rt: &R, alloc: Global) -> Result<Pass, Failed> {
+fn fresh_pass<R: Threads + Wait + Sync + Clock>(rt: &R, alloc: Global) -> Result<Times, Failed> {
     let judge = quiet_judge(alloc)?;
     let (shared, main) = Shared::make(alloc, &judge, &sizes())?;
     pass(rt, alloc, &shared, main)
