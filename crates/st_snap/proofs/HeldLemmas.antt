@@ -1,11 +1,7 @@
 -- Which checks have no lane of the heap: the next one, and a retired one
 use Rattle.std.proofs.Common.{◌≡◌, ℕ, ◌+◌, true, List, [], ◌∷◌, ◌++◌, ap, subst, arith, ◌∙◌}
-use Rattle.st_events.specs.declared.events.Event.{Event}
-use Rattle.st_events.specs.declared.events.Event.TheVariants.{Retire}
-use Rattle.st_events.specs.declared.limits.Sizes.{Sizes}
+use Rattle.st_snap.specs.Terms.{Event, Retire, Sizes, ShapeLists, World, world_after, is_among}
 use Rattle.st_events.specs.Journal.{Written}
-use Rattle.st_events.specs.Shape.{ShapeLists}
-use Rattle.st_events.specs.World.{World, world_after, is_among}
 use Rattle.st_events.proofs.AmongLemmas.{among_without}
 use Rattle.st_events.proofs.WorldLemmas.{world_after_one_more}
 use Rattle.st_snap.specs.Snapshots.{Snapshots, HasNoLane}

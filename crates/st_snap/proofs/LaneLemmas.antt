@@ -11,8 +11,7 @@ use Rattle.std.proofs.lemmas.Bool.{cases_lt}
 use Rattle.std.proofs.lemmas.Bool.Decides.{eqb_tells, nat_tests}
 use Rattle.std.proofs.lemmas.Iterator.Adapters.{position_from-zero}
 use Rattle.std.specs.List.{position_from}
-use Rattle.st_events.specs.declared.limits.Sizes.{Sizes}
-use Rattle.st_events.specs.World.{is_among, without}
+use Rattle.st_snap.specs.Terms.{Sizes, is_among, without}
 use Rattle.st_events.specs.Sound.{IsRising}
 use Rattle.st_events.proofs.HeapLemmas.{set_then_get}
 use Rattle.st_events.proofs.AmongLemmas.{or_first, same_number, among_one_more, among_front, among_back, among_without, without_is_among}

@@ -5,10 +5,8 @@ use Rattle.std.specs.List.{list_any, Contains}
 use Rattle.std.proofs.lemmas.List.{length-map, map-append}
 use Rattle.std.proofs.lemmas.List.Elements.{Contains-append_left, Contains-push}
 use Rattle.std.proofs.lemmas.Bool.Decides.{eqb_tells, nat_tests}
-use Rattle.st_events.specs.declared.limits.Sizes.{Sizes}
-use Rattle.st_events.specs.Shape.{ShapeLists}
-use Rattle.st_events.specs.Heap.{Heap, Object, heap_of, with_word}
-use Rattle.st_events.specs.World.{World, Launched, changed, at, is_among, is_lost, is_full, needing_in, kept_at_change, lost_at_change}
+use Rattle.st_snap.specs.Terms.{Sizes, ShapeLists, Heap, Object, heap_of, with_word, World, Launched, changed, at, is_among, is_lost, needing_in}
+use Rattle.st_events.specs.World.{is_full, kept_at_change, lost_at_change}
 use Rattle.st_events.specs.Sound.{IsSoundWorld}
 use Rattle.st_events.proofs.WorldLemmas.{at_same, at_other}
 use Rattle.st_events.proofs.AmongLemmas.{passing_is_among}

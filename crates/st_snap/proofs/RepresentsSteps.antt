@@ -7,15 +7,10 @@ use Rattle.std.proofs.lemmas.List.Elements.{All-weaker}
 use Rattle.std.proofs.lemmas.Option.{slice_get_within}
 use Rattle.std.proofs.lemmas.Bool.Decides.{eqb_tells}
 use Rattle.std.proofs.lemmas.List.Sums.{sum_by-cons}
-use Rattle.st_events.specs.declared.events.Event.TheVariants.{New, Launch, Retire}
-use Rattle.st_events.specs.declared.events.Args.{Args}
-use Rattle.st_events.specs.declared.limits.Sizes.{Sizes}
-use Rattle.st_events.specs.Shape.{ShapeLists}
-use Rattle.st_events.specs.Heap.{Heap, with_object, fresh}
-use Rattle.st_events.specs.World.{World, Launched, next, first_world, at, without, released}
+use Rattle.st_snap.specs.Terms.{New, Launch, Retire, Args, Sizes, ShapeLists, Heap, with_object, fresh, World, Launched, next, first_world, at, without, LegalNew}
+use Rattle.st_events.specs.World.{released}
 use Rattle.st_events.specs.Sound.{IsSoundWorld}
 use Rattle.st_events.proofs.WorldLemmas.{at_same, at_other}
-use Rattle.st_events.specs.LegalEvents.{LegalNew}
 use Rattle.st_events.proofs.SoundHeap.{next_is_absent}
 use Rattle.st_snap.specs.declared.headers.Header.{Header}
 use Rattle.st_snap.specs.Lanes.{is_idle, is_between}

@@ -6,8 +6,8 @@ use Rattle.std.proofs.lemmas.List.Elements.{filter-append, filter_passes, All-he
 use Rattle.std.proofs.lemmas.List.Kept.{AllPairs-filter}
 use Rattle.std.proofs.lemmas.List.Quantifiers.{all_pairs_push}
 use Rattle.std.proofs.lemmas.Bool.Decides.{nat_tests}
-use Rattle.st_events.specs.declared.limits.Sizes.{Sizes}
-use Rattle.st_events.specs.World.{World, is_among, is_full, without, released, row_if_needed, needing_in}
+use Rattle.st_snap.specs.Terms.{Sizes, World, is_among, without, needing_in}
+use Rattle.st_events.specs.World.{is_full, released, row_if_needed}
 use Rattle.st_events.proofs.AmongLemmas.{among_front, without_is_among}
 use Rattle.st_snap.specs.Lanes.{is_launched_within, is_between}
 use Rattle.st_snap.specs.Pool.{KeptVersion, is_read}

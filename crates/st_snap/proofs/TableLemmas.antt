@@ -1,8 +1,7 @@
 -- What keeping a version leaves as it was
 use Rattle.std.proofs.Common.{◌≡◌, ℕ, length, IsSome, ap, subst, ◌∙◌, inl, inr}
 use Rattle.st_snap.specs.Table.{TableLists, KeepsVersion, Writes, Changes, Makes, adjust, sent, stamped}
-use Rattle.st_events.specs.Heap.{heap_of, word_at, with_word}
-use Rattle.st_events.specs.Shape.{ShapeLists}
+use Rattle.st_snap.specs.Terms.{heap_of, word_at, with_word, ShapeLists}
 use Rattle.st_snap.proofs.ListLemmas.{adjusting_keeps_length}
 
 -- keeping a version leaves the heap as it is

@@ -3,9 +3,8 @@ use Rattle.std.proofs.Common.{◌≡◌, ◌≢◌, ℕ, ◌<◌, ◌≤◌, ◌
 use Rattle.std.proofs.Common.{sym, ◌∙◌, ap, arith, nat_lt}
 use Rattle.std.specs.List.{Contains}
 use Rattle.std.proofs.lemmas.Bool.Decides.{eqb_tells}
-use Rattle.st_events.specs.declared.limits.Sizes.{Sizes}
-use Rattle.st_events.specs.Heap.{Object}
-use Rattle.st_events.specs.World.{World, Pair, is_lost, is_full, needing_in, lost_at_change}
+use Rattle.st_snap.specs.Terms.{Sizes, Object, World, Pair, is_lost, needing_in}
+use Rattle.st_events.specs.World.{is_full, lost_at_change}
 use Rattle.st_events.proofs.AmongLemmas.{among_passing}
 use Rattle.st_events.proofs.LegalEvents.{is_below}
 use Rattle.st_events.proofs.KeptLemmas.{lost_in_either, lost_in_front, lost_by_pairs}

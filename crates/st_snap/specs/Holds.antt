@@ -1,11 +1,7 @@
 -- The one invariant of a snapshot heap: what its fields have to do with its journal
 use Rattle.std.specs.Prelude.{◌≡◌, ◌+◌, ◌≤◌, length}
-use Rattle.st_events.specs.declared.limits.Sizes.{Sizes}
+use Rattle.st_snap.specs.Terms.{Sizes, ShapeLists, IsWithinLimits, AreWithinLimits, world_after, IsLegal}
 use Rattle.st_events.specs.Journal.{Written}
-use Rattle.st_events.specs.Shape.{ShapeLists, IsWithinLimits}
-use Rattle.st_events.specs.Sizes.{AreWithinLimits}
-use Rattle.st_events.specs.World.{world_after}
-use Rattle.st_events.specs.Legal.{IsLegal}
 use Rattle.st_snap.specs.Lanes.{lanes_after}
 use Rattle.st_snap.specs.Snapshots.{event_room}
 use Rattle.st_snap.specs.Table.{TableLists}

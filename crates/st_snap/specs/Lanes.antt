@@ -1,8 +1,7 @@
 -- Lanes: which check each has after a journal, and which checks were launched in a span of epochs
 use Rattle.std.specs.Prelude.{ℕ, ◌==◌, nat_lt, nat_le, Bool, true, false, ◌&&◌, if◌then◌else◌, List, [], ◌∷◌, map, position, slice_set, replicate}
 use Rattle.std.specs.Prelude.{max, Option, Some, None}
-use Rattle.st_events.specs.declared.events.Event.{Event}
-use Rattle.st_events.specs.declared.events.Event.TheVariants.{New, Load, Store, Cas, Launch, Retire}
+use Rattle.st_snap.specs.Terms.{Event, New, Load, Store, Cas, Launch, Retire}
 
 -- whether the lane has no check
 abbrev pub is_idle : Option ℕ → Bool

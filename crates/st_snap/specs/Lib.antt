@@ -6,3 +6,4 @@ pub mod PoolLists
 pub mod Represents
 pub mod Snapshots
 pub mod Table
+pub mod Terms

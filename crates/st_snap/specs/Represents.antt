@@ -1,9 +1,7 @@
 -- What the tables mean: the world that a journal makes
 use Rattle.std.specs.Prelude.{◌≡◌, ◌≢◌, ℕ, ◌+◌, ◌<◌, ◌≤◌, true, false, List, length, map, filter, count_by, slice_get, Option, Some, IsSome}
 use Rattle.std.specs.List.{Contains, All, list_any}
-use Rattle.st_events.specs.declared.limits.Sizes.{Sizes}
-use Rattle.st_events.specs.Heap.{Object, heap_of}
-use Rattle.st_events.specs.World.{World, Launched, Row, Pair, is_among, is_lost}
+use Rattle.st_snap.specs.Terms.{Sizes, Object, heap_of, World, Launched, Row, Pair, is_among, is_lost}
 use Rattle.st_snap.specs.declared.headers.Forward.{Forward}
 use Rattle.st_snap.specs.declared.headers.Header.{Header}
 use Rattle.st_snap.specs.declared.headers.Target.{Target}

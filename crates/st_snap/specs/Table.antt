@@ -2,10 +2,8 @@
 use Rattle.std.specs.Prelude.{◌≡◌, ◌≢◌, ℕ, zero, suc, ◌+◌, ◌*◌, ◌<◌, ◌≤◌, ◌⊎◌}
 use Rattle.std.specs.Prelude.{Bool, true, false, List, [], ◌∷◌, length, filter, position, slice_get, slice_set, slice_index, replicate, Option, Some, None}
 use Rattle.std.specs.List.{Contains}
-use Rattle.st_events.specs.declared.limits.Sizes.{Sizes}
+use Rattle.st_snap.specs.Terms.{Sizes, ShapeLists, Object, heap_of, word_of, word_at, with_object, with_word, fresh, first_heap}
 use Rattle.st_events.specs.declared.heaps.TheConstants.{FIRST_OF_REGIONS}
-use Rattle.st_events.specs.Shape.{ShapeLists}
-use Rattle.st_events.specs.Heap.{Object, heap_of, word_of, word_at, with_object, with_word, fresh, first_heap}
 use Rattle.st_snap.specs.declared.headers.Forward.{Forward}
 use Rattle.st_snap.specs.declared.headers.Header.{Header}
 use Rattle.st_snap.specs.declared.headers.Target.{Target}

@@ -1,7 +1,6 @@
 //! The snapshot heap. It is called with whole operations, keeps its journal, and takes all its memory at `make`.
 ghost use Rattle.std.specs.Prelude.{◌≡◌, ◌-◌, ◌^◌, ◌<◌, [], ◌∷◌, ◌++◌, length, IfOk};
-ghost use Rattle.st_events.specs.Shape.{IsWithinLimits};
-ghost use Rattle.st_events.specs.Sizes.{AreWithinLimits};
+ghost use Rattle.st_snap.specs.Terms.{IsWithinLimits, AreWithinLimits};
 
 mod checks;
 mod counts;

@@ -1,10 +1,8 @@
 //! What a snapshot heap keeps beside its journal: the live heap, an object's header, the lanes and the pool of copies.
 ghost use Rattle.std.specs.Prelude.{◌≡◌, ◌≢◌, ℕ, ◌+◌, ◌-◌, ◌*◌, ◌^◌, ◌<◌, ◌≤◌, length, slice_get, slice_index, slice_set, Some, None, IfOk, IsSome, IsTrue};
 ghost use Rattle.std.specs.List.{Contains};
-ghost use Rattle.st_events.specs.Heap.{heap_of, word_at};
+ghost use Rattle.st_snap.specs.Terms.{heap_of, word_at, IsWithinLimits, AreWithinLimits};
 ghost use Rattle.st_events.specs.Legal.{is_word};
-ghost use Rattle.st_events.specs.Shape.{IsWithinLimits};
-ghost use Rattle.st_events.specs.Sizes.{AreWithinLimits};
 
 use crate::headers::{Forward, Header, LANES, Target};
 use crate::lanes::{Lane, Lanes};

@@ -1,8 +1,6 @@
 //! The calls of mutators on the live heap: each is one event of the journal, and no check's lane changes.
 ghost use Rattle.std.specs.Prelude.{◌≡◌, ◌<◌, ◌≤◌, ◌↔◌, length, Some, IsTrue};
-ghost use Rattle.st_events.specs.Heap.{word_at};
-ghost use Rattle.st_events.specs.Legal.{next_object};
-ghost use Rattle.st_events.specs.declared.events.Event.{Event};
+ghost use Rattle.st_snap.specs.Terms.{word_at, next_object, Event};
 ghost use Rattle.st_snap.specs.Snapshots.{world_of, heap_now, lanes_now, IsLegalHeap, with_event, HasSpare, has_kind_of, HasCell};
 
 use super::{SnapHeap, append};

@@ -1,7 +1,5 @@
 use Rattle.std.proofs.Common.{◌≡◌, ◌<◌, true, ap, sym, subst, ◌∙◌, IsSome}
-use Rattle.st_events.specs.declared.events.Event.TheVariants.{Cas}
-use Rattle.st_events.specs.Heap.{Heap, word_at}
-use Rattle.st_events.specs.World.{world_after}
+use Rattle.st_snap.specs.Terms.{Cas, Heap, word_at, world_after}
 use Rattle.st_events.specs.Legal.{is_word}
 use Rattle.st_snap.specs.Snapshots.{Snapshots, HasSpare, heap_now, lanes_now, has_kind_of}
 use Rattle.st_snap.proofs.HoldsLemmas.{holds_after_event, world_is_sound, cell_has_header, cas_is_represented, cas_keeps_lanes}

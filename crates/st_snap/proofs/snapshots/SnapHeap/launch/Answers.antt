@@ -1,6 +1,5 @@
 use Rattle.std.proofs.Common.{◌≡◌, ◌≢◌, length, ℕ, ◌+◌, ◌<◌, true, List, slice_get, slice_set, Option, Some, None, arith, refl, ap, sym, subst, ◌∙◌}
-use Rattle.st_events.specs.declared.events.Event.TheVariants.{Launch}
-use Rattle.st_events.specs.World.{world_after, next}
+use Rattle.st_snap.specs.Terms.{Launch, world_after, next}
 use Rattle.st_snap.specs.Lanes.{with_check_at}
 use Rattle.st_snap.specs.Snapshots.{Snapshots, HasSpare, are_args_of, active_now}
 use Rattle.st_snap.specs.Table.{TableLists}

@@ -1,7 +1,5 @@
 use Rattle.std.proofs.Common.{◌<◌, refl, ap, sym, subst, ◌∙◌}
-use Rattle.st_events.specs.declared.events.Event.TheVariants.{Load}
-use Rattle.st_events.specs.Heap.{Heap, word_at}
-use Rattle.st_events.specs.World.{world_after}
+use Rattle.st_snap.specs.Terms.{Load, Heap, word_at, world_after}
 use Rattle.st_snap.specs.Snapshots.{Snapshots, HasSpare, lanes_now}
 use Rattle.st_snap.proofs.HoldsLemmas.{holds_after_event}
 use Rattle.st_events.proofs.LegalEvents.{load_is_legal}

@@ -1,12 +1,10 @@
 use Rattle.std.proofs.Common.{◌≡◌, length, ℕ, ◌+◌, ◌*◌, ◌<◌, ap, sym, subst, ◌∙◌}
-use Rattle.st_events.specs.declared.events.Event.TheVariants.{New}
-use Rattle.st_events.specs.World.{world_after}
+use Rattle.st_snap.specs.Terms.{New, world_after, next_object}
 use Rattle.st_snap.specs.Snapshots.{Snapshots, HasSpare, lanes_now, world_of}
 use Rattle.st_snap.proofs.HoldsLemmas.{holds_after_event, world_is_sound}
 use Rattle.st_snap.proofs.RepresentsSteps.{new_is_represented}
 use Rattle.st_snap.proofs.TableLemmas.{made_same_lanes}
 use Rattle.st_snap.proofs.snapshots.SnapHeap.new.Goals as goal
-use Rattle.st_events.specs.Legal.{next_object}
 use Rattle.st_events.proofs.LegalEvents.{legal_new, new_is_legal}
 
 pub invariant_of-self : goal.invariant_of-self

@@ -1,6 +1,5 @@
 use Rattle.std.proofs.Common.{◌≡◌, ℕ, true, false, Option, Some, None, arith, refl, ap, ◌⊎◌, sym, subst, ◌∙◌, inl, inr, IsSome}
-use Rattle.st_events.specs.Heap.{Heap, word_at}
-use Rattle.st_events.specs.World.{world_after}
+use Rattle.st_snap.specs.Terms.{Heap, word_at, world_after, Sizes, ShapeLists}
 use Rattle.st_snap.specs.Snapshots.{Snapshots}
 use Rattle.st_snap.specs.Table.{TableLists}
 use Rattle.st_snap.specs.declared.lanes.Lane.{Lane}
@@ -9,8 +8,6 @@ use Rattle.st_snap.proofs.snapshots.SnapHeap.read.Goals as goal
 use Rattle.st_snap.specs.Table.{ReadsByForward}
 use Rattle.st_snap.specs.Holds.{Holds}
 use Rattle.st_snap.specs.Snapshots.{IsLaneOf, word_at_launch, is_lost_for}
-use Rattle.st_events.specs.declared.limits.Sizes.{Sizes}
-use Rattle.st_events.specs.Shape.{ShapeLists}
 use Rattle.st_events.specs.Journal.{Written}
 use Rattle.st_snap.proofs.ReadLemmas.{read_is_right, sent_to_copies, object_is_still_there, object_has_place, cell_has_object, pasts_are_small, field_is_small}
 

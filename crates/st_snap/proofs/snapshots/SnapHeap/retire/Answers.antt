@@ -1,6 +1,5 @@
 use Rattle.std.proofs.Common.{◌≡◌, ◌≢◌, ◌≤◌, slice_get, slice_set, Some, None, ap, sym, subst, ◌∙◌}
-use Rattle.st_events.specs.declared.events.Event.TheVariants.{Retire}
-use Rattle.st_events.specs.World.{world_after, next, without}
+use Rattle.st_snap.specs.Terms.{Retire, world_after, next, without}
 use Rattle.st_snap.specs.Snapshots.{Snapshots, HasSpare}
 use Rattle.st_snap.specs.Table.{TableLists}
 use Rattle.st_snap.specs.Represents.{Represents}

@@ -1,7 +1,5 @@
 use Rattle.std.proofs.Common.{◌≡◌, ◌<◌, true, ap, sym, subst, ◌∙◌, IsSome}
-use Rattle.st_events.specs.declared.events.Event.TheVariants.{Store}
-use Rattle.st_events.specs.Heap.{Heap, word_at}
-use Rattle.st_events.specs.World.{world_after}
+use Rattle.st_snap.specs.Terms.{Store, Heap, word_at, world_after}
 use Rattle.st_snap.specs.Snapshots.{Snapshots, HasSpare, heap_now, lanes_now, has_kind_of}
 use Rattle.st_snap.proofs.HoldsLemmas.{holds_after_event, world_is_sound, cell_has_header}
 use Rattle.st_events.proofs.LegalEvents.{store_is_legal}
