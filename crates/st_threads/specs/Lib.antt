@@ -1,0 +1,5 @@
+pub mod Deeds
+pub mod Laws
+pub mod Right
+pub mod Statements
+pub mod Threads
