@@ -14,7 +14,7 @@ use Rattle.st_program.specs.Terms.{Term, a_number, a_truth, a_null, a_local, a_s
 use Rattle.st_program.specs.Terms.{Terms, no_terms, term_then}
 use Rattle.st_meaning.specs.Courses.{Course, comes_to, ends_in, reads, uses_unit, and_then}
 use Rattle.st_meaning.specs.Meaning.{Calls, truth, course_of, courses_of}
-use Rattle.st_eval.specs.Code.{After, code_of, codes_of, count_of, done, code_course}
+use Rattle.st_eval.specs.StraightCode.{After, code_of, codes_of, count_of, done, code_course}
 
 -- three courses, one after another, in either grouping
 pub then_then :

@@ -4,7 +4,7 @@ use Rattle.st_eval.specs.declared.instructions.Instruction.{Instruction}
 use Rattle.st_program.specs.Terms.{Term}
 use Rattle.st_meaning.specs.Courses.{and_then}
 use Rattle.st_meaning.specs.Meaning.{Calls, course_of}
-use Rattle.st_eval.specs.Code.{code_of, code_course}
+use Rattle.st_eval.specs.StraightCode.{code_of, code_course}
 
 -- from the empty stack the code of a term comes to what the term comes to, by the same reads and units
 abbrev pub CodeIsItsCourse : Type 0

@@ -1,2 +1,8 @@
-pub mod Code
+pub mod Activations
+pub mod Bodies
 pub mod Laws
+pub mod Outcomes
+pub mod Rests
+pub mod Room
+pub mod Steps
+pub mod StraightCode

@@ -2,8 +2,16 @@
 //! are passed over. The one call is of laws, and computes nothing.
 #![tactic(auto)]
 
+mod asks;
+mod compiling;
+mod frames;
 mod instructions;
 mod laws;
+mod operators;
+mod program_codes;
+mod stacks;
+mod steps;
 
+pub use asks::Ask;
 pub use instructions::Instruction;
 pub use laws::laws_of_code;
