@@ -1,0 +1,5 @@
+pub mod Agents
+pub mod Laws
+pub mod Runs
+pub mod States
+pub mod Steps
