@@ -4,12 +4,14 @@
 
 mod declarations;
 mod expressions;
+mod limits;
 mod names;
 mod operators;
 mod statements;
 
 pub use declarations::{Class, Field, Param, Pred, Proc, Program, Thread, TypeName};
 pub use expressions::Expr;
+pub use limits::{MOST_OPEN_BRACES, MOST_SOURCE_CLASSES};
 pub use names::Name;
 pub use operators::Op;
 pub use sqlite_items::{Boxed, Items};

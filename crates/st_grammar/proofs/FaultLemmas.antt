@@ -2,7 +2,7 @@
 use Rattle.std.proofs.Common.{◌≡◌, true, false, List, [], ◌∷◌, ◌++◌, Option, Some, None, option_map, map, refl, sym, ap, subst, ◌∙◌}
 use Rattle.st_grammar.specs.Charts.{Symbol, token, part, Grammar, next, choice_at, sort_of_next, Faults, whole, left_over, ends, fits, misfits, goes, stuck}
 use Rattle.st_grammar.specs.Checks.{Samples, IsChecked}
-use Rattle.st_grammar.specs.Answers.{IsText, IsFirst}
+use Rattle.st_grammar.specs.Texts.{IsText, IsFirst}
 use Rattle.st_grammar.proofs.ReadLemmas.{one_fault}
 use Rattle.st_grammar.proofs.SampleLemmas.{Finish, finish_token, choice_in, finish_reads, finish_choice, finish_start}
 
@@ -54,7 +54,8 @@ module _ {T K N : Type 0} (g : Grammar T K N) (s : Samples T K N) (start : N) (c
       let front : next (t ∷ read ++ more) ≡ next ts = ap next (sym split) in
       (more, goes (ap (λ (z : Option T). choice_at g n (option_map g.sort z)) front ∙ e) h)
 
-  through : (n : N) (c ss : List (Symbol K N)) (ts : List T) (o : Option (List T)) (ws : List K) → choice_at g n (sort_of_next g ts) ≡ Some c → Finish s (part n ∷ ss) ws → Known g (c ++ ss) ts o
+  through : (n : N) (c ss : List (Symbol K N)) (ts : List T) (o : Option (List T)) (ws : List K) → choice_at g n (sort_of_next g ts) ≡ Some c → Finish s (part n ∷ ss) ws
+      → Known g (c ++ ss) ts o
       → Known g (part n ∷ ss) ts o
   through n c ss ts None ws e w k = tt
   through n c ss ts (Some rest) ws e w k =

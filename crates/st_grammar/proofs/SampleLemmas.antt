@@ -39,7 +39,8 @@ one_told first later other c true more e among = let same : first.symbols ≡ c 
 one_told first later other c false more e among = there (among e)
 
 -- the chosen choice is one of the part's
-told_in : {K N : Type 0} (test : K → Bool) (later : List (Told K N)) (other : Option (List (Symbol K N))) (c : List (Symbol K N)) → told_of test later other ≡ Some c → In c (choices_of later other)
+told_in : {K N : Type 0} (test : K → Bool) (later : List (Told K N)) (other : Option (List (Symbol K N))) (c : List (Symbol K N)) → told_of test later other ≡ Some c
+    → In c (choices_of later other)
 told_in test [] None c e = absurd cc
 told_in test [] (Some d) c e = let same : d ≡ c = cc in subst (λ x. In x (d ∷ [])) same here
 told_in test (first ∷ later) other c e = one_told first later other c (list_any test first.sorts) (told_of test later other) e (told_in test later other c)

@@ -1,4 +1,4 @@
 pub mod Charts
 pub mod Checks
-pub mod Answers
 pub mod Reads
+pub mod Texts

@@ -2,7 +2,7 @@
 #![tactic(auto)]
 
 ghost use Rattle.std.specs.Prelude.{List, [], ◌∷◌, Some};
-ghost use Rattle.st_grammar.specs.Answers.{IsFirst};
+ghost use Rattle.st_grammar.specs.Texts.{IsFirst};
 ghost use Rattle.st_grammar.specs.Checks.{Samples, IsChecked};
 ghost use Rattle.st_grammar.specs.Charts.{Grammar, Faults, part};
 

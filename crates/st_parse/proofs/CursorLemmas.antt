@@ -1,8 +1,8 @@
 -- The next of the terminals that are left.
 use Rattle.std.proofs.Common.{◌≡◌, ℕ, zero, suc, ◌+◌, List, [], ◌∷◌, drop, Option, Some, None, Ok, slice_get, refl, ap, sym, ◌∙◌, arith, rules}
 use Rattle.std.proofs.lemmas.List.{drop-drop}
-use Rattle.st_parse.specs.Terminals.{Terminal}
-use Rattle.st_parse.specs.Reading.{take_any}
+use Rattle.st_syntax.specs.Terminals.{Terminal}
+use Rattle.st_reading.specs.Reading.{take_any}
 
 drop_one : (k : ℕ) (xs : List Terminal) (y : Terminal) (ys : List Terminal) → drop k xs ≡ y ∷ ys → drop (k + 1) xs ≡ ys
 drop_one k xs y ys e = sym (drop-drop 1 k xs) ∙ ap (drop 1) e

@@ -1,7 +1,7 @@
 -- The order of the levels of operators, for the recursion of the readers of expressions.
 use Rattle.std.proofs.Common.{ℕ}
-use Rattle.st_parse.specs.declared.levels.Chain.{Chain}
-use Rattle.st_parse.specs.declared.levels.Chain.TheVariants as chain
+use Rattle.st_syntax.specs.declared.operators.Chain.{Chain}
+use Rattle.st_syntax.specs.declared.operators.Chain.TheVariants as chain
 
 abbrev pub rank : Chain → ℕ
 rank chain.Product = 8

@@ -1,12 +1,2 @@
-pub mod Counts
-pub mod FirstFault
-pub mod Firsts
-pub mod Grammar
-pub mod Mentions
-pub mod Operators
-pub mod Reading
-pub mod Reads
-pub mod Sorts
-pub mod Terminals
-pub mod TokenLimits
 pub mod Outcomes
+pub mod Reads

@@ -2,8 +2,8 @@
 use Rattle.std.specs.Prelude.{◌≡◌, List, Result, Ok, Err}
 use Rattle.st_parse.specs.declared.stops.Stop.{Stop}
 use Rattle.st_parse.specs.declared.stops.Stop.TheVariants as stop
-use Rattle.st_parse.specs.Reading.{Outcome}
-use Rattle.st_parse.specs.Terminals.{Terminal}
+use Rattle.st_reading.specs.Reading.{Outcome}
+use Rattle.st_syntax.specs.Terminals.{Terminal}
 
 abbrev pub StopsAt : {A : Type 0} → Outcome A → Stop → List Terminal → Type 0
 StopsAt outcome stop.Memory left = Unit {0}

@@ -1,13 +1,12 @@
 //! A cursor over the tokens of a text.
 ghost use Rattle.std.specs.Prelude.{◌≡◌, ◌<◌, ◌≤◌, length, slice_get, OnOk};
 ghost use Rattle.std.specs.Option.{option_copied};
-ghost use Rattle.st_parse.specs.Reading as spec;
+ghost use Rattle.st_reading.specs.Reading as spec;
 ghost use Rattle.st_parse.specs.Reads.{Reads};
-ghost use Rattle.st_parse.specs.Terminals.{next_sort};
+ghost use Rattle.st_syntax.specs.Terminals.{next_sort};
 
-use crate::lexemes::Lexeme;
-use crate::sorts::{Sort, same_sort};
 use crate::stops::Stop;
+use st_syntax::{Lexeme, Sort, same_sort};
 use std::marker::Model;
 
 /// A place among the tokens of a text. Contracts see the list of the tokens that are left.
@@ -20,7 +19,7 @@ pub struct Cursor<'t, 'a> {
 
 impl<'t, 'a> Model for Cursor<'t, 'a> {
     ghost use Rattle.std.specs.Prelude.{List, drop, length, ◌≤◌};
-    ghost use Rattle.st_parse.specs.Terminals.{Terminal};
+    ghost use Rattle.st_syntax.specs.Terminals.{Terminal};
 
     ghost Value = { List Terminal };
 
@@ -55,7 +54,7 @@ impl<'t, 'a> Cursor<'t, 'a> {
     }
 
     /// Whether the next token has the sort.
-    #[tactic(auto, unfolding(crate::specs::Reading::sees))]
+    #[tactic(auto, unfolding(st_reading::specs::Reading::sees))]
     pub fn sees(&self, sort: Sort) -> bool
         ensures { result ≡ spec.sees sort self.now }
     {
@@ -63,7 +62,7 @@ impl<'t, 'a> Cursor<'t, 'a> {
     }
 
     /// Takes the next token, whatever its sort.
-    #[tactic(auto, unfolding(crate::specs::Reading::take_any))]
+    #[tactic(auto, unfolding(st_reading::specs::Reading::take_any))]
     pub fn take(&mut self) -> Result<&'t Lexeme<'a>, Stop>
         ensures reads { Reads (λ lexeme. lexeme.now) (spec.take_any self.old) result self.new }
         ensures shorter { OnOk result (length self.new < length self.old) }
@@ -78,7 +77,7 @@ impl<'t, 'a> Cursor<'t, 'a> {
     }
 
     /// Takes the next token, which is to have the sort.
-    #[tactic(auto, unfolding(crate::specs::Reading::expect, crate::specs::Reading::sees, crate::specs::Reading::take_any))]
+    #[tactic(auto, unfolding(st_reading::specs::Reading::expect, st_reading::specs::Reading::sees, st_reading::specs::Reading::take_any))]
     pub fn expect(&mut self, sort: Sort) -> Result<&'t Lexeme<'a>, Stop>
         ensures reads { Reads (λ lexeme. lexeme.now) (spec.expect sort self.old) result self.new }
         ensures shorter { OnOk result (length self.new < length self.old) }

@@ -3,48 +3,10 @@ ghost use Rattle.std.specs.Prelude.{◌≡◌};
 ghost use Rattle.st_parse.specs.declared.errors.ParseError.TheVariants.{Memory};
 
 use st_events::Site;
+use st_syntax::What;
 use std::alloc::{AllocError, AllocFailed};
 use std::fmt;
 use thiserror::Error;
-
-/// What a text has too many of.
-#[derive(Clone, Copy, Debug, PartialEq, Eq)]
-pub enum What {
-    /// Classes, above `MOST_CLASSES`.
-    Classes,
-    /// Fields of a class, or shared variables, above `MOST_FIELDS`.
-    Fields,
-    /// Predicates, above `MOST_PREDS`.
-    Preds,
-    /// Procedures, above `MOST_PROCS`.
-    Procs,
-    /// Threads, above `MOST_THREADS`.
-    Threads,
-    /// Parameters of a predicate or a procedure, above `MOST_PARAMS`.
-    Params,
-    /// Locals of a body, parameters included, above `MOST_LOCALS`.
-    Locals,
-    /// Arguments of a check, above `MOST_ARGS`.
-    CheckArgs,
-    /// Check statements, above `MOST_CHECKS`.
-    Checks,
-}
-
-impl fmt::Display for What {
-    fn fmt<W: fmt::Write>(&self, f: &mut fmt::Formatter<W>) -> fmt::Result {
-        f.write_str(match self {
-            What::Classes => "classes",
-            What::Fields => "fields",
-            What::Preds => "predicates",
-            What::Procs => "procedures",
-            What::Threads => "threads",
-            What::Params => "parameters",
-            What::Locals => "locals",
-            What::CheckArgs => "arguments",
-            What::Checks => "checks",
-        })
-    }
-}
 
 /// Why `parse` gives no tree.
 #[derive(Clone, Copy, Debug, PartialEq, Eq, Error)]

@@ -2,18 +2,17 @@
 //! another is read with one less, so the limit on tokens bounds the recursion.
 ghost use Rattle.std.specs.Prelude.{◌≡◌, ◌<◌, ◌≤◌, length, IfOk, OnOk, Some};
 ghost use Rattle.st_ast.specs.declared.expressions.Expr.TheVariants as expr;
-ghost use Rattle.st_parse.specs.Reading as spec;
-ghost use Rattle.st_parse.specs.declared.levels.Level.TheVariants as level;
+ghost use Rattle.st_reading.specs.Reading as spec;
+ghost use Rattle.st_reading.specs.declared.levels.Level.TheVariants as level;
 ghost use Rattle.st_parse.specs.Reads.{Reads};
 
 use crate::cursors::Cursor;
-use crate::levels::{Chain, Level, comparison};
-use crate::limits::MOST_TOKENS_BETWEEN;
 use crate::places::{fields_after, local, shared_field};
-use crate::sorts::Sort;
 use crate::stops::Stop;
 use st_ast::{Boxed, Expr, Items, Op};
 use st_events::Site;
+use st_reading::Level;
+use st_syntax::{Chain, MOST_TOKENS_BETWEEN, Sort, comparison};
 use std::alloc::{AllocError, Global};
 
 /// An operator with its operands.
@@ -29,7 +28,7 @@ fn binary(alloc: Global, op: Op, left: Expr, right: Expr, site: Site) -> Result<
 }
 
 /// A token that is an expression by itself.
-#[tactic(auto, unfolding(crate::specs::Reading::literal))]
+#[tactic(auto, unfolding(st_reading::specs::Reading::literal))]
 fn literal(cursor: &mut Cursor<'_, '_>) -> Result<Expr, Stop>
     ensures reads { Reads (λ e. e) (spec.literal cursor.old) result cursor.new }
     ensures shorter { OnOk result (length cursor.new < length cursor.old) }
@@ -58,7 +57,7 @@ fn literal(cursor: &mut Cursor<'_, '_>) -> Result<Expr, Stop>
 }
 
 /// `expr { "," expr }`.
-#[tactic(auto, unfolding(crate::specs::Reading::listed))]
+#[tactic(auto, unfolding(st_reading::specs::Reading::listed))]
 #[cycle(expr)]
 fn series(alloc: Global, cursor: &mut Cursor<'_, '_>, depth: usize) -> Result<Items<Expr>, Stop>
     ensures reads { Reads (λ found. found) (spec.listed (spec.nested depth level.Whole) cursor.old) result cursor.new }
@@ -83,7 +82,7 @@ fn after_comma(alloc: Global, cursor: &mut Cursor<'_, '_>, depth: usize) -> Resu
 }
 
 /// `[ args ] ")"`.
-#[tactic(auto, unfolding(crate::specs::Reading::args, crate::specs::Reading::enclosed))]
+#[tactic(auto, unfolding(st_reading::specs::Reading::args, st_reading::specs::Reading::enclosed))]
 #[cycle(expr)]
 pub fn arguments(
     alloc: Global,
@@ -103,7 +102,7 @@ pub fn arguments(
 }
 
 /// `name | name "(" [ args ] ")"`.
-#[tactic(auto, unfolding(crate::specs::Reading::named))]
+#[tactic(auto, unfolding(st_reading::specs::Reading::named))]
 #[cycle(expr)]
 fn named(alloc: Global, cursor: &mut Cursor<'_, '_>, depth: usize) -> Result<Expr, Stop>
     ensures reads { Reads (λ e. e) (spec.named (spec.nested depth) cursor.old) result cursor.new }
@@ -123,7 +122,7 @@ fn named(alloc: Global, cursor: &mut Cursor<'_, '_>, depth: usize) -> Result<Exp
 }
 
 /// `"(" expr ")"`.
-#[tactic(auto, unfolding(crate::specs::Reading::paren))]
+#[tactic(auto, unfolding(st_reading::specs::Reading::paren))]
 #[cycle(expr)]
 fn paren(alloc: Global, cursor: &mut Cursor<'_, '_>, depth: usize) -> Result<Expr, Stop>
     ensures reads { Reads (λ e. e) (spec.paren (spec.nested depth) cursor.old) result cursor.new }
@@ -138,7 +137,7 @@ fn paren(alloc: Global, cursor: &mut Cursor<'_, '_>, depth: usize) -> Result<Exp
     })
 }
 
-#[tactic(auto, unfolding(crate::specs::Reading::primary, crate::specs::Reading::literal))]
+#[tactic(auto, unfolding(st_reading::specs::Reading::primary, st_reading::specs::Reading::literal))]
 #[cycle(expr)]
 fn primary(alloc: Global, cursor: &mut Cursor<'_, '_>, depth: usize) -> Result<Expr, Stop>
     ensures reads { Reads (λ e. e) (spec.primary (spec.nested depth) cursor.old) result cursor.new }
@@ -153,7 +152,7 @@ fn primary(alloc: Global, cursor: &mut Cursor<'_, '_>, depth: usize) -> Result<E
 }
 
 /// `primary { "." name }`.
-#[tactic(auto, unfolding(crate::specs::Reading::postfix))]
+#[tactic(auto, unfolding(st_reading::specs::Reading::postfix))]
 #[cycle(expr)]
 fn postfix(alloc: Global, cursor: &mut Cursor<'_, '_>, depth: usize) -> Result<Expr, Stop>
     ensures reads { Reads (λ e. e) (spec.postfix (spec.nested depth) cursor.old) result cursor.new }
@@ -164,7 +163,7 @@ fn postfix(alloc: Global, cursor: &mut Cursor<'_, '_>, depth: usize) -> Result<E
 }
 
 /// `( "!" | "-" ) unary | postfix`.
-#[tactic(auto, unfolding(crate::specs::Reading::unary))]
+#[tactic(auto, unfolding(st_reading::specs::Reading::unary))]
 #[cycle(expr)]
 fn unary(alloc: Global, cursor: &mut Cursor<'_, '_>, depth: usize) -> Result<Expr, Stop>
     ensures reads { Reads (λ e. e) (spec.unary (spec.nested depth) cursor.old) result cursor.new }
@@ -192,7 +191,7 @@ fn unary(alloc: Global, cursor: &mut Cursor<'_, '_>, depth: usize) -> Result<Exp
 }
 
 /// An operand of the operators of a level.
-#[tactic(auto, unfolding(crate::specs::Reading::or, crate::specs::Reading::and, crate::specs::Reading::sum, crate::specs::Reading::term))]
+#[tactic(auto, unfolding(st_reading::specs::Reading::or, st_reading::specs::Reading::and, st_reading::specs::Reading::sum, st_reading::specs::Reading::term))]
 #[cycle(expr)]
 fn operand(
     alloc: Global,
@@ -212,7 +211,7 @@ fn operand(
 }
 
 /// The next operator of a level and its right operand.
-#[tactic(auto, unfolding(crate::specs::Reading::link))]
+#[tactic(auto, unfolding(st_reading::specs::Reading::link))]
 #[cycle(expr)]
 fn link(
     alloc: Global,
@@ -235,7 +234,7 @@ fn link(
 }
 
 /// `operand { operator operand }`, grouped to the left.
-#[tactic(auto, unfolding(crate::specs::Reading::linked))]
+#[tactic(auto, unfolding(st_reading::specs::Reading::linked))]
 #[cycle(expr)]
 fn linked(
     alloc: Global,
@@ -254,7 +253,7 @@ fn linked(
 }
 
 /// `sum [ comparison sum ]`.
-#[tactic(auto, unfolding(crate::specs::Reading::cmp, crate::specs::Reading::sum))]
+#[tactic(auto, unfolding(st_reading::specs::Reading::cmp, st_reading::specs::Reading::sum))]
 #[cycle(expr)]
 fn compared(alloc: Global, cursor: &mut Cursor<'_, '_>, depth: usize) -> Result<Expr, Stop>
     ensures reads { Reads (λ e. e) (spec.cmp (spec.nested depth) cursor.old) result cursor.new }
@@ -272,7 +271,7 @@ fn compared(alloc: Global, cursor: &mut Cursor<'_, '_>, depth: usize) -> Result<
 }
 
 /// `"?" expr ":" expr`, after its test.
-#[tactic(auto, unfolding(crate::specs::Reading::branches))]
+#[tactic(auto, unfolding(st_reading::specs::Reading::branches))]
 #[cycle(expr)]
 fn branches(
     alloc: Global,
@@ -296,7 +295,7 @@ fn branches(
 }
 
 /// `or [ "?" expr ":" expr ]`.
-#[tactic(auto, unfolding(crate::specs::Reading::choice, crate::specs::Reading::or))]
+#[tactic(auto, unfolding(st_reading::specs::Reading::choice, st_reading::specs::Reading::or))]
 #[cycle(expr)]
 fn choice(alloc: Global, cursor: &mut Cursor<'_, '_>, depth: usize) -> Result<Expr, Stop>
     ensures reads { Reads (λ e. e) (spec.choice (spec.nested depth) cursor.old) result cursor.new }
@@ -311,7 +310,7 @@ fn choice(alloc: Global, cursor: &mut Cursor<'_, '_>, depth: usize) -> Result<Ex
 }
 
 /// An expression of a level, in which expressions nest no deeper than `depth`.
-#[tactic(auto, unfolding(crate::specs::Reading::nested))]
+#[tactic(auto, unfolding(st_reading::specs::Reading::nested))]
 #[cycle(expr)]
 fn nested(
     alloc: Global,
@@ -332,7 +331,7 @@ fn nested(
 }
 
 /// An expression.
-#[tactic(auto, unfolding(crate::specs::Reading::whole))]
+#[tactic(auto, unfolding(st_reading::specs::Reading::whole))]
 pub fn expression(alloc: Global, cursor: &mut Cursor<'_, '_>) -> Result<Expr, Stop>
     ensures reads { Reads (λ e. e) (spec.whole cursor.old) result cursor.new }
     ensures shorter { OnOk result (length cursor.new < length cursor.old) }

@@ -5,24 +5,21 @@ ghost use Rattle.st_events.specs.declared.events.Site.{Site};
 ghost use Rattle.st_lex.specs.declared.limits.TheConstants.{MOST_SOURCE_BYTES};
 ghost use Rattle.st_lex.specs.Places.{place_at};
 ghost use Rattle.st_lex.specs.Tokens.{IsToken, IsTokensOf};
-ghost use Rattle.st_parse.specs.declared.errors.What.{What};
-ghost use Rattle.st_parse.specs.declared.token_limits.Over.TheVariants as over;
+ghost use Rattle.st_syntax.specs.declared.counts.What.{What};
+ghost use Rattle.st_syntax.specs.declared.token_limits.Over.TheVariants as over;
 ghost use Rattle.st_parse.specs.Outcomes as spec;
 ghost use Rattle.st_parse.specs.Outcomes.{IsProgramOf, StopsUnexpected, HasTooMany};
-ghost use Rattle.st_parse.specs.Terminals.{terminals_of};
-ghost use Rattle.st_parse.specs.TokenLimits.{IsFirstOver};
+ghost use Rattle.st_syntax.specs.Terminals.{terminals_of};
+ghost use Rattle.st_syntax.specs.TokenLimits.{IsFirstOver};
 
-use crate::counts::first_excess;
 use crate::cursors::Cursor;
 use crate::errors::ParseError;
-use crate::items::items_of;
-use crate::lexemes::{Lexeme, lexemes_of};
 use crate::programs::program;
 use crate::stops::Stop;
-use crate::token_limits::{Over, first_over};
 use st_ast::Program;
 use st_events::Site;
 use st_lex::Token;
+use st_syntax::{Lexeme, Over, first_excess, first_over, items_of, lexemes_of};
 use std::alloc::Global;
 
 /// The tree of a text of at most `MOST_SOURCE_BYTES` bytes, whose tokens these are, where it is a text of the grammar

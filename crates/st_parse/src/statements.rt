@@ -1,22 +1,20 @@
 //! Statements and blocks, one function for each rule. `depth` says how deep blocks may still nest: each that stands
 //! inside another is read with one less, so the limit on braces bounds the recursion.
 ghost use Rattle.std.specs.Prelude.{◌≡◌, ◌<◌, ◌≤◌, length, OnOk};
-ghost use Rattle.st_parse.specs.Reading as spec;
+ghost use Rattle.st_reading.specs.Reading as spec;
 ghost use Rattle.st_parse.specs.Reads.{Reads};
 
 use crate::cursors::Cursor;
 use crate::expressions::{arguments, expression};
-use crate::lexemes::Lexeme;
-use crate::limits::{MOST_OPEN_BRACES, MOST_TOKENS_BETWEEN};
 use crate::places::{place, place_after, typed};
-use crate::sorts::Sort;
 use crate::stops::Stop;
 use crate::values::assigned;
-use st_ast::{Expr, Items, Stmt};
+use st_ast::{Expr, Items, MOST_OPEN_BRACES, Stmt};
+use st_syntax::{Lexeme, MOST_TOKENS_BETWEEN, Sort};
 use std::alloc::Global;
 
 /// `"var" name ":" type "=" value ";"`.
-#[tactic(auto, unfolding(crate::specs::Reading::var_stmt))]
+#[tactic(auto, unfolding(st_reading::specs::Reading::var_stmt))]
 fn var_stmt(alloc: Global, cursor: &mut Cursor<'_, '_>) -> Result<Stmt, Stop>
     ensures reads { Reads (λ s. s) (spec.var_stmt cursor.old) result cursor.new }
     ensures shorter { OnOk result (length cursor.new < length cursor.old) }
@@ -35,7 +33,7 @@ fn var_stmt(alloc: Global, cursor: &mut Cursor<'_, '_>) -> Result<Stmt, Stop>
 }
 
 /// `"=" value ";"` after a place.
-#[tactic(auto, unfolding(crate::specs::Reading::put_after))]
+#[tactic(auto, unfolding(st_reading::specs::Reading::put_after))]
 fn put_after(alloc: Global, cursor: &mut Cursor<'_, '_>, place: Expr) -> Result<Stmt, Stop>
     ensures reads { Reads (λ s. s) (spec.put_after place cursor.old) result cursor.new }
     ensures shorter { OnOk result (length cursor.new < length cursor.old) }
@@ -46,7 +44,7 @@ fn put_after(alloc: Global, cursor: &mut Cursor<'_, '_>, place: Expr) -> Result<
 }
 
 /// `"(" [ args ] ")" ";"` after a name.
-#[tactic(auto, unfolding(crate::specs::Reading::call_after, crate::specs::Reading::args, crate::specs::Reading::whole))]
+#[tactic(auto, unfolding(st_reading::specs::Reading::call_after, st_reading::specs::Reading::args, st_reading::specs::Reading::whole))]
 fn call_after(alloc: Global, cursor: &mut Cursor<'_, '_>, name: &Lexeme<'_>) -> Result<Stmt, Stop>
     ensures reads { Reads (λ s. s) (spec.call_after name.now cursor.old) result cursor.new }
     ensures shorter { OnOk result (length cursor.new < length cursor.old) }
@@ -75,7 +73,7 @@ fn assign_after(alloc: Global, cursor: &mut Cursor<'_, '_>, name: &Lexeme<'_>) -
 }
 
 /// A statement that begins with a name.
-#[tactic(auto, unfolding(crate::specs::Reading::named_stmt))]
+#[tactic(auto, unfolding(st_reading::specs::Reading::named_stmt))]
 fn named_stmt(alloc: Global, cursor: &mut Cursor<'_, '_>) -> Result<Stmt, Stop>
     ensures reads { Reads (λ s. s) (spec.named_stmt cursor.old) result cursor.new }
     ensures shorter { OnOk result (length cursor.new < length cursor.old) }
@@ -93,7 +91,7 @@ fn named_stmt(alloc: Global, cursor: &mut Cursor<'_, '_>) -> Result<Stmt, Stop>
 }
 
 /// A statement that begins with the shared object.
-#[tactic(auto, unfolding(crate::specs::Reading::shared_stmt))]
+#[tactic(auto, unfolding(st_reading::specs::Reading::shared_stmt))]
 fn shared_stmt(alloc: Global, cursor: &mut Cursor<'_, '_>) -> Result<Stmt, Stop>
     ensures reads { Reads (λ s. s) (spec.shared_stmt cursor.old) result cursor.new }
     ensures shorter { OnOk result (length cursor.new < length cursor.old) }
@@ -103,7 +101,7 @@ fn shared_stmt(alloc: Global, cursor: &mut Cursor<'_, '_>) -> Result<Stmt, Stop>
 }
 
 /// `"check" expr ";"`.
-#[tactic(auto, unfolding(crate::specs::Reading::check_stmt))]
+#[tactic(auto, unfolding(st_reading::specs::Reading::check_stmt))]
 fn check_stmt(alloc: Global, cursor: &mut Cursor<'_, '_>) -> Result<Stmt, Stop>
     ensures reads { Reads (λ s. s) (spec.check_stmt cursor.old) result cursor.new }
     ensures shorter { OnOk result (length cursor.new < length cursor.old) }
@@ -118,7 +116,7 @@ fn check_stmt(alloc: Global, cursor: &mut Cursor<'_, '_>) -> Result<Stmt, Stop>
 }
 
 /// `"(" expr ")"`.
-#[tactic(auto, unfolding(crate::specs::Reading::condition))]
+#[tactic(auto, unfolding(st_reading::specs::Reading::condition))]
 fn condition(alloc: Global, cursor: &mut Cursor<'_, '_>) -> Result<Expr, Stop>
     ensures reads { Reads (λ e. e) (spec.condition cursor.old) result cursor.new }
     ensures shorter { OnOk result (length cursor.new < length cursor.old) }
@@ -131,7 +129,7 @@ fn condition(alloc: Global, cursor: &mut Cursor<'_, '_>) -> Result<Expr, Stop>
 
 /// `[ "else" block ]`.
 #[cycle(block)]
-#[tactic(auto, unfolding(crate::specs::Reading::else_part))]
+#[tactic(auto, unfolding(st_reading::specs::Reading::else_part))]
 fn else_part(
     alloc: Global,
     cursor: &mut Cursor<'_, '_>,
@@ -149,7 +147,7 @@ fn else_part(
 
 /// `"if" "(" expr ")" block [ "else" block ]`.
 #[cycle(block)]
-#[tactic(auto, unfolding(crate::specs::Reading::if_stmt))]
+#[tactic(auto, unfolding(st_reading::specs::Reading::if_stmt))]
 fn if_stmt(alloc: Global, cursor: &mut Cursor<'_, '_>, depth: usize) -> Result<Stmt, Stop>
     ensures reads { Reads (λ s. s) (spec.if_stmt (spec.blocks depth) cursor.old) result cursor.new }
     ensures shorter { OnOk result (length cursor.new < length cursor.old) }
@@ -168,7 +166,7 @@ fn if_stmt(alloc: Global, cursor: &mut Cursor<'_, '_>, depth: usize) -> Result<S
 
 /// `"while" "(" expr ")" block`.
 #[cycle(block)]
-#[tactic(auto, unfolding(crate::specs::Reading::while_stmt))]
+#[tactic(auto, unfolding(st_reading::specs::Reading::while_stmt))]
 fn while_stmt(alloc: Global, cursor: &mut Cursor<'_, '_>, depth: usize) -> Result<Stmt, Stop>
     ensures reads { Reads (λ s. s) (spec.while_stmt (spec.blocks depth) cursor.old) result cursor.new }
     ensures shorter { OnOk result (length cursor.new < length cursor.old) }
@@ -185,7 +183,7 @@ fn while_stmt(alloc: Global, cursor: &mut Cursor<'_, '_>, depth: usize) -> Resul
 
 /// A statement; its first token tells which.
 #[cycle(block)]
-#[tactic(auto, unfolding(crate::specs::Reading::statement))]
+#[tactic(auto, unfolding(st_reading::specs::Reading::statement))]
 fn statement(alloc: Global, cursor: &mut Cursor<'_, '_>, depth: usize) -> Result<Stmt, Stop>
     ensures reads { Reads (λ s. s) (spec.statement (spec.blocks depth) cursor.old) result cursor.new }
     ensures shorter { OnOk result (length cursor.new < length cursor.old) }
@@ -235,7 +233,7 @@ fn block(alloc: Global, cursor: &mut Cursor<'_, '_>, depth: usize) -> Result<Ite
 
 /// `"{" { stmt } "}"`.
 #[cycle(block)]
-#[tactic(auto, unfolding(crate::specs::Reading::block_of))]
+#[tactic(auto, unfolding(st_reading::specs::Reading::block_of))]
 fn braced(alloc: Global, cursor: &mut Cursor<'_, '_>, depth: usize) -> Result<Items<Stmt>, Stop>
     ensures reads { Reads (λ body. body) (spec.block_of (spec.blocks depth) cursor.old) result cursor.new }
     ensures shorter { OnOk result (length cursor.new < length cursor.old) }
@@ -247,7 +245,7 @@ fn braced(alloc: Global, cursor: &mut Cursor<'_, '_>, depth: usize) -> Result<It
 }
 
 /// The block of a procedure or a thread.
-#[tactic(auto, unfolding(crate::specs::Reading::body_block))]
+#[tactic(auto, unfolding(st_reading::specs::Reading::body_block))]
 pub fn body_block(alloc: Global, cursor: &mut Cursor<'_, '_>) -> Result<Items<Stmt>, Stop>
     ensures reads { Reads (λ body. body) (spec.body_block cursor.old) result cursor.new }
     ensures shorter { OnOk result (length cursor.new < length cursor.old) }

@@ -100,114 +100,124 @@ fn too_many(what: What, line: u32, column: u32) -> ParseError {
     ParseError::TooMany { what, at }
 }
 
-fn counts() -> [Row; 10] {
+fn limit(
+    front: &'static [u8],
+    piece: &'static [u8],
+    most: usize,
+    back: &'static [u8],
+    above: ParseError,
+) -> Row {
+    Row {
+        front,
+        piece,
+        most,
+        back,
+        above,
+    }
+}
+
+/// More declarations and fields than there may be.
+fn declarations() -> [Row; 6] {
+    use What::{Classes, Fields, Preds, Procs, Threads};
     [
-        Row {
-            front: b"",
-            piece: b"class A { }\n",
-            most: 64,
-            back: b"",
-            above: too_many(What::Classes, 65, 7),
-        },
-        Row {
-            front: b"class A {\n",
-            piece: b"a: int;\n",
-            most: 12,
-            back: b"}",
-            above: too_many(What::Fields, 14, 1),
-        },
-        Row {
-            front: b"class A { a: int; }\nshared {\n",
-            piece: b"a: int;\n",
-            most: 12,
-            back: b"}",
-            above: too_many(What::Fields, 15, 1),
-        },
-        Row {
-            front: b"",
-            piece: b"pred p(): bool = true;\n",
-            most: 64,
-            back: b"",
-            above: too_many(What::Preds, 65, 6),
-        },
-        Row {
-            front: b"",
-            piece: b"proc p() { }\n",
-            most: 64,
-            back: b"",
-            above: too_many(What::Procs, 65, 6),
-        },
-        Row {
-            front: b"",
-            piece: b"thread t { }\n",
-            most: 8,
-            back: b"",
-            above: too_many(What::Threads, 9, 8),
-        },
-        Row {
-            front: b"proc p(a: int\n",
-            piece: b", a: int\n",
-            most: 7,
-            back: b") { }",
-            above: too_many(What::Params, 9, 3),
-        },
-        Row {
-            front: b"proc p(a: int) {\n",
-            piece: b"var a: int = 1;\n",
-            most: 31,
-            back: b"}",
-            above: too_many(What::Locals, 33, 5),
-        },
-        Row {
-            front: b"thread t { check a + b + c + d",
-            piece: b" + e",
-            most: 0,
-            back: b" + a; }",
-            above: too_many(What::CheckArgs, 1, 34),
-        },
-        Row {
-            front: b"proc p() {\n",
-            piece: b"check true;\n",
-            most: 1_023,
-            back: b"} thread t { check true; }",
-            above: too_many(What::Checks, 1_026, 14),
-        },
+        limit(b"", b"class A { }\n", 64, b"", too_many(Classes, 65, 7)),
+        limit(
+            b"class A {\n",
+            b"a: int;\n",
+            12,
+            b"}",
+            too_many(Fields, 14, 1),
+        ),
+        limit(
+            b"class A { a: int; }\nshared {\n",
+            b"a: int;\n",
+            12,
+            b"}",
+            too_many(Fields, 15, 1),
+        ),
+        limit(
+            b"",
+            b"pred p(): bool = true;\n",
+            64,
+            b"",
+            too_many(Preds, 65, 6),
+        ),
+        limit(b"", b"proc p() { }\n", 64, b"", too_many(Procs, 65, 6)),
+        limit(b"", b"thread t { }\n", 8, b"", too_many(Threads, 9, 8)),
     ]
 }
 
-fn token_limits() -> [Row; 2] {
+/// More in a body than there may be.
+fn parts() -> [Row; 4] {
+    use What::{CheckArgs, Checks, Locals, Params};
     [
-        Row {
-            front: b"thread t {",
-            piece: b"while(a){",
-            most: 15,
-            back: b"}}}}}}}}}}}}}}}}",
-            above: ParseError::TooDeep {
-                at: Site {
-                    line: 1,
-                    column: 154,
-                },
-            },
-        },
-        Row {
-            front: b"thread t { check 1",
-            piece: b" + 1",
-            most: 63,
-            back: b"; }",
-            above: ParseError::TooLong {
-                at: Site {
-                    line: 1,
-                    column: 272,
-                },
-            },
-        },
+        limit(
+            b"proc p(a: int\n",
+            b", a: int\n",
+            7,
+            b") { }",
+            too_many(Params, 9, 3),
+        ),
+        limit(
+            b"proc p(a: int) {\n",
+            b"var a: int = 1;\n",
+            31,
+            b"}",
+            too_many(Locals, 33, 5),
+        ),
+        limit(
+            b"thread t { check a + b + c + d",
+            b" + e",
+            0,
+            b" + a; }",
+            too_many(CheckArgs, 1, 34),
+        ),
+        limit(
+            b"proc p() {\n",
+            b"check true;\n",
+            1_023,
+            b"} thread t { check true; }",
+            too_many(Checks, 1_026, 14),
+        ),
+    ]
+}
+
+/// More tokens than there may be.
+fn token_limits() -> [Row; 2] {
+    let deep = Site {
+        line: 1,
+        column: 154,
+    };
+    let long = Site {
+        line: 1,
+        column: 272,
+    };
+    [
+        limit(
+            b"thread t {",
+            b"while(a){",
+            15,
+            b"}}}}}}}}}}}}}}}}",
+            ParseError::TooDeep { at: deep },
+        ),
+        limit(
+            b"thread t { check 1",
+            b" + 1",
+            63,
+            b"; }",
+            ParseError::TooLong { at: long },
+        ),
     ]
 }
 
 #[test]
 fn a_limit_is_allowed_and_one_above_is_told_at_its_place(rt: HostRuntime) -> Result<(), Fail> {
     let alloc = rt.alloc();
-    for row in counts().iter().chain(token_limits().iter()) {
+    for row in declarations()
+        .iter()
+        .chain(parts().iter())
+        .chain(token_limits().iter())
+    {
         assert_eq!(rt;
             answer(alloc, &text_of(alloc, row, row.most)?),
             Some(Ok(()))

@@ -1,8 +1,8 @@
 use Rattle.std.proofs.Common.{◌≡◌, true, false, [], ◌∷◌, ◌++◌, refl, ap, sym, subst, ◌∙◌, arith}
-use Rattle.st_parse.specs.declared.sorts.Sort.TheVariants as sort
-use Rattle.st_parse.specs.Reading as spec
-use Rattle.st_parse.specs.Reading.{is_sort, one_more, sees}
-use Rattle.st_parse.specs.Sorts.{same_sort}
+use Rattle.st_syntax.specs.declared.sorts.Sort.TheVariants as sort
+use Rattle.st_reading.specs.Reading as spec
+use Rattle.st_reading.specs.Reading.{is_sort, one_more, sees}
+use Rattle.st_syntax.specs.Sorts.{same_sort}
 use Rattle.st_parse.proofs.ReadsLemmas.{handed_on, loop_stops, more_made, more_stops, many_begins, listed_begins}
 use Rattle.st_parse.proofs.Turns.{no_turn, turn_taken}
 use Rattle.st_parse.proofs.programs.preds.Goals as goal
@@ -20,7 +20,8 @@ returns-in_err-pred c =
 pub loop-alloc-preserved : goal.loop-alloc-preserved
 unfolding sees same_sort
 loop-alloc-preserved c =
-    c.loop-alloc.invariant ∙ turn_taken (is_sort sort.Pred) (one_more spec.pred) c.loop-alloc.found c.push.new.self c.loop-alloc.cursor c.pred.new.cursor (sym c.sees.ensures ∙ c.loop-alloc-test.true)
+    c.loop-alloc.invariant ∙ turn_taken (is_sort sort.Pred) (one_more spec.pred) c.loop-alloc.found c.push.new.self c.loop-alloc.cursor c.pred.new.cursor
+    (sym c.sees.ensures ∙ c.loop-alloc-test.true)
     (more_made spec.pred c.loop-alloc.found c.push.new.self c.in_ok-pred.field-0 c.loop-alloc.cursor c.pred.new.cursor c.in_ok-pred.ensures.reads c.in_ok-push.ensures.ok)
     c.in_ok-pred.ensures.shorter
 

@@ -1,0 +1,3 @@
+pub mod FirstLemmas
+pub mod ItemLemmas
+pub mod SortLemmas

@@ -1,0 +1,10 @@
+-- The code's mentions without where their names lie in memory.
+use Rattle.std.specs.Prelude.{List, map}
+use Rattle.st_syntax.specs.declared.mentions.Mention.{Mention as Borrowed}
+use Rattle.st_syntax.specs.Counts.{Mention}
+
+abbrev pub mention_view : Borrowed → Mention
+mention_view m = record { name = m.name.now; site = m.site }
+
+abbrev pub mention_views : List Borrowed → List Mention
+mention_views ms = map mention_view ms
