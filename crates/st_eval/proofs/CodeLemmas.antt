@@ -318,7 +318,7 @@ mutual
       (code_runs calls locals t) (codes_run calls locals ts)
 
 -- nothing after a course
-then_nothing : {A : Type 0} (c : Course A) → and_then c (λ x. comes_to x) ≡ c
+pub then_nothing : {A : Type 0} (c : Course A) → and_then c (λ x. comes_to x) ≡ c
 then_nothing (comes_to x) = refl
 then_nothing (ends_in plain) = refl
 then_nothing (reads obj field next) = ap (reads obj field) (fun_ext (λ word. then_nothing (next word)))

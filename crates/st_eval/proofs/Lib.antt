@@ -1,6 +1,11 @@
 pub mod BodyLemmas
 pub mod CodeLemmas
 pub mod CompilingLemmas
+pub mod EvalLemmas
+pub mod FallLemmas
 pub mod PartLemmas
+pub mod ReadyLemmas
 pub mod RestLemmas
+pub mod RoomLemmas
+pub mod RunLemmas
 pub mod StackLemmas

@@ -1,10 +1,9 @@
 -- Parts of code, from a place on.
-use Rattle.std.proofs.Common.{◌≡◌, ◌≤◌, ◌<◌, ℕ, zero, suc, ◌+◌, ◌-◌, List, [], ◌∷◌, ◌++◌, length, take, drop, min, Option, Some, None, slice_get}
+use Rattle.std.proofs.Common.{◌≡◌, ◌≤◌, ◌<◌, ℕ, zero, suc, ◌+◌, ◌-◌, List, [], ◌∷◌, length, take, drop, min, Some, None, slice_get}
 use Rattle.std.proofs.Common.{refl, sym, ◌∙◌, ap, arith, ◌⊎◌, inl, inr}
 use Rattle.std.proofs.lemmas.Bool.{cases_lt}
 use Rattle.std.proofs.lemmas.List.{drop_all, length-take, length-drop}
 use Rattle.st_eval.specs.declared.instructions.Instruction.{Instruction}
-use Rattle.st_meaning.specs.Courses.{Course}
 use Rattle.st_meaning.specs.Meaning.{Calls}
 use Rattle.st_eval.specs.StraightCode.{code_course}
 use Rattle.st_eval.specs.Steps.{part}

@@ -1,39 +1,37 @@
 -- A step keeps the rest of an evaluation: the turn that the course has is the turn after the step.
-use Rattle.std.proofs.Common.{◌≡◌, ◌≢◌, ◌≤◌, ◌<◌, ℕ, zero, suc, ◌+◌, ◌-◌, ◌==◌, Bool, true, false}
-use Rattle.std.proofs.Common.{if◌then◌else◌, List, [], ◌∷◌, length, take, drop, reverse, min, Option, Some, None, slice_get, unwrap_or, neg_ℤ}
-use Rattle.std.proofs.Common.{refl, sym, ◌∙◌, ap, subst, arith, ℤ, ◌+ℤ◌, ◌-ℤ◌, ◌*ℤ◌}
+use Rattle.std.proofs.Common.{◌≡◌, ◌≢◌, ◌≤◌, ◌<◌, ℕ, zero, suc, ◌-◌, ◌==◌, Bool, true, false}
+use Rattle.std.proofs.Common.{if◌then◌else◌, List, [], ◌∷◌, length, take, drop, reverse, Option, Some, None, slice_get, neg_ℤ}
+use Rattle.std.proofs.Common.{refl, sym, ◌∙◌, ap, arith, ℤ, ◌+ℤ◌, ◌-ℤ◌, ◌*ℤ◌}
 use Rattle.std.specs.Prelude.{int_div, int_rem}
 use Rattle.std.proofs.lemmas.Bool.Decides.{nat_tests}
 use Rattle.st_events.specs.declared.events.Site.{Site}
 use Rattle.st_events.specs.declared.verdicts.Plain.{Plain}
 use Rattle.st_events.specs.declared.verdicts.Plain.TheVariants.{Null, Divide, Overflow, Spent, Deep}
-use Rattle.st_events.specs.declared.heaps.TheConstants.{SHARED_OBJECT}
 use Rattle.st_program.specs.declared.expressions.Operator.{Operator}
 use Rattle.st_program.specs.declared.expressions.Operator.TheVariants.{Add, Sub, Mul, Div, Rem, Less, LessEq, Greater, GreaterEq, Equal, NotEqual}
 use Rattle.st_program.specs.Terms.{Predicate}
 use Rattle.st_meaning.specs.declared.limits.TheConstants.{MOST_DEPTH}
 use Rattle.st_meaning.specs.Courses.{Course, comes_to, ends_in, reads, uses_unit, and_then}
 use Rattle.st_meaning.specs.Numbers.{number_of, word_of_number, is_true, is_in_range, number_or_overflow}
-use Rattle.st_meaning.specs.Meaning.{Calls, operate, quotient, remainder, body_course, call_within}
-use Rattle.st_meaning.specs.Plain.{verdict_of}
-use Rattle.st_meaning.specs.Turns.{Turn, asks, is_over, turn_of}
+use Rattle.st_meaning.specs.Meaning.{operate, quotient, body_course, call_within}
+use Rattle.st_meaning.specs.Turns.{Turn, is_over, turn_of}
 use Rattle.st_eval.specs.declared.frames.Span.{Span}
 use Rattle.st_eval.specs.declared.instructions.Instruction.{Instruction}
 use Rattle.st_eval.specs.declared.instructions.Instruction.TheVariants.{Push, Local, Shared, Field, Not, Minus, Binary, Both, Either, Test, Skip, Call}
 use Rattle.st_eval.specs.StraightCode.{After, top, below, done, then_pushed, code_course}
 use Rattle.st_eval.specs.Activations.{Activation, Activations, top_word, pushed, popped, onward, past, entered, resumed}
-use Rattle.st_eval.specs.Steps.{Step, goes_on, asks_for, ends, part, span_of, answered, called, acted, returned, stepped, step}
+use Rattle.st_eval.specs.Steps.{goes_on, asks_for, ends, part, span_of, answered, called, acted, returned, stepped, step}
 use Rattle.st_eval.specs.Bodies.{AreBodies, predicate_bodies}
-use Rattle.st_eval.specs.Rests.{calls_above, rest_of, course_at, rest_at, step_turn}
+use Rattle.st_eval.specs.Rests.{calls_above, rest_of, course_at, step_turn}
 use Rattle.st_eval.proofs.CodeLemmas.{then_then}
 use Rattle.st_eval.proofs.PartLemmas.{part_first, part_past, none_of, passed}
 use Rattle.st_eval.proofs.BodyLemmas.{body_is}
 
 -- what tests say
-same_true : (a b : ℕ) → (a == b) ≡ true → a ≡ b
+pub same_true : (a b : ℕ) → (a == b) ≡ true → a ≡ b
 same_true a b h = grind (arith, nat_tests)
 
-other_false : (a b : ℕ) → (a == b) ≡ false → a ≢ b
+pub other_false : (a b : ℕ) → (a == b) ≡ false → a ≢ b
 other_false a b h = grind (arith, nat_tests)
 
 -- the rest after an instruction whose course this is
@@ -149,7 +147,7 @@ deeper_call_keeps :
     → length s.waiting < MOST_DEPTH
     → turn_of (after preds code s
     (then_pushed (calls_above preds (length s.waiting) pred (reverse (take args s.running.words))) (drop args s.running.words))) units
-    ≡ step_turn preds code (if units == 0 then ends Spent else goes_on (entered (span_of spans pred) args s) (units - 1))
+    ≡ step_turn preds code (if units == 0 then ends Spent s else goes_on (entered (span_of spans pred) args s) (units - 1))
 deeper_call_keeps preds code most spans s pred args units h deep =
     ap (λ d. turn_of (after preds code s (then_pushed (call_within preds d pred (reverse (take args s.running.words))) (drop args s.running.words))) units)
     (let e : MOST_DEPTH - length s.waiting ≡ suc (MOST_DEPTH - suc (length s.waiting)) = omega arith in e)
@@ -164,7 +162,7 @@ deeper_call_keeps preds code most spans s pred args units h deep =
           | suc left ↦ turn_of (after preds code s
               (then_pushed (body_course (calls_above preds (suc (length s.waiting))) (slice_get preds pred) (reverse (take args s.running.words))) (drop args s.running.words))) left
         ]
-        ≡ step_turn preds code (if b then ends Spent else goes_on (entered (span_of spans pred) args s) (n - 1))
+        ≡ step_turn preds code (if b then ends Spent s else goes_on (entered (span_of spans pred) args s) (n - 1))
     by zero true e = refl
     by zero false e = cc
     by (suc left) true e = absurd (let z : suc left ≡ 0 = same_true (suc left) 0 e in let f : ⊥ = omega arith in f)
@@ -184,7 +182,7 @@ call_keeps preds code most spans s pred args units h deep = by (length s.waiting
     by : (b : Bool) → (length s.waiting == MOST_DEPTH) ≡ b
         → turn_of (after preds code s
         (then_pushed (calls_above preds (length s.waiting) pred (reverse (take args s.running.words))) (drop args s.running.words))) units
-        ≡ step_turn preds code (if b then ends Deep else (if units == 0 then ends Spent else goes_on (entered (span_of spans pred) args s) (units - 1)))
+        ≡ step_turn preds code (if b then ends Deep s else (if units == 0 then ends Spent s else goes_on (entered (span_of spans pred) args s) (units - 1)))
     by true e =
         ap (λ d. turn_of (after preds code s (then_pushed (call_within preds d pred (reverse (take args s.running.words))) (drop args s.running.words))) units)
         (let n : length s.waiting ≡ MOST_DEPTH = same_true (length s.waiting) MOST_DEPTH e in let z : MOST_DEPTH - length s.waiting ≡ 0 = omega arith in z)
@@ -210,7 +208,7 @@ acted_keeps preds code most spans (Field field at) s units h deep = by (top_word
   where
     by : (b : Bool)
         → turn_of (after preds code s (then_pushed (if b then ends_in (Null at) else reads (top_word s) field (λ word. comes_to word)) (below s.running.words))) units
-        ≡ step_turn preds code (if b then ends (Null at) else asks_for (top_word s) field (popped s) units)
+        ≡ step_turn preds code (if b then ends (Null at) (popped s) else asks_for (top_word s) field (popped s) units)
     by true = refl
     by false = refl
 acted_keeps preds code most spans Not s units h deep = refl
@@ -256,7 +254,9 @@ acted_keeps preds code most spans (Call pred args) s units h deep = call_keeps p
 returned_keeps :
     (preds : List Predicate) (code : List Instruction) (running : Activation) (waiting : List Activation) (a b units : ℕ)
     → turn_of (rest_of preds code waiting (top running.words)) units
-    ≡ step_turn preds code (returned (resumed (record { running = running; waiting = waiting; words_room = a; calls_room = b })) (top running.words) units)
+    ≡ step_turn preds code
+    (returned (resumed (record { running = running; waiting = waiting; words_room = a; calls_room = b }))
+    (record { running = running; waiting = waiting; words_room = a; calls_room = b }) units)
 returned_keeps preds code running [] a b units = refl
 returned_keeps preds code running (caller ∷ waiting) a b units = refl
 

@@ -1,8 +1,11 @@
 pub mod Activations
 pub mod Bodies
+pub mod Evaluations
 pub mod Laws
 pub mod Outcomes
 pub mod Rests
 pub mod Room
+pub mod Runs
 pub mod Steps
 pub mod StraightCode
+pub mod Weights

@@ -34,4 +34,4 @@ rest_at preds code s word = course_at preds code (pushed word s)
 abbrev pub step_turn : List Predicate → List Instruction → Step → Turn
 step_turn preds code (goes_on s units) = turn_of (course_at preds code s) units
 step_turn preds code (asks_for obj field s units) = asks obj field (rest_at preds code s) units
-step_turn preds code (ends plain) = is_over plain
+step_turn preds code (ends plain s) = is_over plain

@@ -1,5 +1,5 @@
 -- Room: how many words a body needs at most, so that no word is pushed without room, and none is taken that is not there.
-use Rattle.std.specs.Prelude.{◌≡◌, ◌≢◌, ℕ, zero, suc, ◌+◌, ◌-◌, ◌*◌, ◌^◌, ◌<◌, ◌≤◌, List, [], ◌∷◌, length, slice_get, Option, Some, None}
+use Rattle.std.specs.Prelude.{◌≢◌, ℕ, zero, suc, ◌+◌, ◌-◌, ◌*◌, ◌^◌, ◌<◌, ◌≤◌, List, [], ◌∷◌, length, slice_get, Option, Some, None}
 use Rattle.st_events.specs.declared.shapes.TheConstants.{MOST_ARGS}
 use Rattle.st_meaning.specs.declared.limits.TheConstants.{MOST_DEPTH}
 use Rattle.st_eval.specs.declared.frames.Span.{Span}
@@ -59,6 +59,10 @@ Wait code most locals [] = locals ≤ MOST_ARGS
 Wait code most locals (a ∷ rest) =
     (length a.words + locals ≤ most) × IsBodyAt code most a (suc (length a.words)) × Wait code most (length a.locals) rest
 
+-- the memory that was taken for any evaluation
+abbrev pub HasRooms : ℕ → Activations → Type 0
+HasRooms most s = ((MOST_DEPTH + 1) * most + MOST_ARGS ≤ s.words_room) × (MOST_DEPTH ≤ s.calls_room)
+
 -- an evaluation whose running body has so many words: there is room for all that it may push
 pub record HasRoom (code : List Instruction) (most : ℕ) (s : Activations) (words : ℕ) : Type 0 where
   pub running : IsBodyAt code most s.running words
@@ -108,7 +112,7 @@ abbrev pub NeedsStep : List Instruction → Activations → Type 0
 NeedsStep code s = NeedsNext (slice_get (part code s.running.place s.running.end) 0) s
 
 -- the cell that a step asks for is of an object whose number has 32 bits
-abbrev pub AsksForObject : Step → Type 0
-AsksForObject (goes_on s units) = Unit {0}
-AsksForObject (asks_for obj field s units) = IsObject obj
-AsksForObject (ends plain) = Unit {0}
+abbrev pub StepsToObject : Step → Type 0
+StepsToObject (goes_on s units) = Unit {0}
+StepsToObject (asks_for obj field s units) = IsObject obj
+StepsToObject (ends plain s) = Unit {0}

@@ -1,5 +1,5 @@
 -- What one step of an evaluation does: an instruction is done, or a body is at its end.
-use Rattle.std.specs.Prelude.{◌≡◌, ℕ, ◌-◌, ◌<◌, ◌==◌, not, if◌then◌else◌, List, [], ◌∷◌, length, take, drop, unwrap_or, slice_get, Option, Some, None, neg_ℤ}
+use Rattle.std.specs.Prelude.{ℕ, ◌-◌, ◌==◌, not, if◌then◌else◌, List, length, take, drop, unwrap_or, slice_get, Option, Some, None, neg_ℤ}
 use Rattle.st_events.specs.declared.heaps.TheConstants.{SHARED_OBJECT}
 use Rattle.st_events.specs.declared.verdicts.Plain.{Plain}
 use Rattle.st_events.specs.declared.verdicts.Plain.TheVariants.{Null, Deep, Spent}
@@ -9,17 +9,17 @@ use Rattle.st_eval.specs.declared.asks.Ask.TheVariants.{Read, Done}
 use Rattle.st_eval.specs.declared.frames.Span.{Span}
 use Rattle.st_eval.specs.declared.instructions.Instruction.{Instruction}
 use Rattle.st_eval.specs.declared.instructions.Instruction.TheVariants.{Push, Local, Shared, Field, Not, Minus, Binary, Both, Either, Test, Skip, Call}
-use Rattle.st_meaning.specs.Courses.{Course, comes_to, ends_in, reads, uses_unit}
+use Rattle.st_meaning.specs.Courses.{Course, comes_to, ends_in}
 use Rattle.st_meaning.specs.Meaning.{operate}
 use Rattle.st_meaning.specs.Numbers.{number_of, word_of_truth, is_true, number_or_overflow}
 use Rattle.st_meaning.specs.Plain.{verdict_of}
-use Rattle.st_eval.specs.Activations.{Activation, Activations, top_word, local_word, pushed, popped, onward, past, entered, resumed}
+use Rattle.st_eval.specs.Activations.{Activations, top_word, local_word, pushed, popped, onward, past, entered, resumed}
 
--- a step goes on, with so many units left; it asks for a cell, whose word is to be pushed; or the check is over
+-- a step goes on, with so many units left; it asks for a cell, whose word is to be pushed; or the check is over, and this is left
 pub data Step : Type 0 where
   goes_on : Activations → ℕ → Step
   asks_for : ℕ → ℕ → Activations → ℕ → Step
-  ends : Plain → Step
+  ends : Plain → Activations → Step
 
 -- the instructions from a place on, below an end
 abbrev pub part : List Instruction → ℕ → ℕ → List Instruction
@@ -32,21 +32,21 @@ span_of preds pred = unwrap_or (slice_get preds pred) (record { start = 0; end =
 -- what an operator gives is pushed, or it is a fault; an operator reads nothing
 abbrev pub answered : Course ℕ → Activations → ℕ → Step
 answered (comes_to word) s units = goes_on (pushed word s) units
-answered (ends_in plain) s units = ends plain
-answered course s units = ends Deep
+answered (ends_in plain) s units = ends plain s
+answered course s units = ends Deep s
 
 -- a call: too deep where MOST_DEPTH bodies wait; else spent without a unit; else it uses one, and the body of the predicate begins
 abbrev pub called : List Span → ℕ → ℕ → Activations → ℕ → Step
 called preds pred args s units =
-    if length s.waiting == MOST_DEPTH then ends Deep
-    else (if units == 0 then ends Spent else goes_on (entered (span_of preds pred) args s) (units - 1))
+    if length s.waiting == MOST_DEPTH then ends Deep s
+    else (if units == 0 then ends Spent s else goes_on (entered (span_of preds pred) args s) (units - 1))
 
 -- what an instruction does, after the place went on
 abbrev pub acted : List Span → Instruction → Activations → ℕ → Step
 acted preds (Push word) s units = goes_on (pushed word s) units
 acted preds (Local local) s units = goes_on (pushed (local_word s local) s) units
 acted preds (Shared field) s units = asks_for SHARED_OBJECT field s units
-acted preds (Field field at) s units = if top_word s == 0 then ends (Null at) else asks_for (top_word s) field (popped s) units
+acted preds (Field field at) s units = if top_word s == 0 then ends (Null at) (popped s) else asks_for (top_word s) field (popped s) units
 acted preds Not s units = goes_on (pushed (word_of_truth (not (is_true (top_word s)))) (popped s)) units
 acted preds (Minus at) s units = answered (number_or_overflow (neg_ℤ (number_of (top_word s))) at) (popped s) units
 acted preds (Binary operator at) s units = answered (operate operator (top_word (popped s)) (top_word s) at) (popped (popped s)) units
@@ -57,13 +57,13 @@ acted preds (Skip count) s units = goes_on (past count s) units
 acted preds (Call pred args) s units = called preds pred args s units
 
 -- a body is at its end: its top word goes to the last caller; where none waits, it is the check's
-abbrev pub returned : Option Activations → ℕ → ℕ → Step
-returned None word units = ends (verdict_of word)
-returned (Some s) word units = goes_on (pushed word s) units
+abbrev pub returned : Option Activations → Activations → ℕ → Step
+returned None s units = ends (verdict_of (top_word s)) (popped s)
+returned (Some after) s units = goes_on (pushed (top_word s) after) units
 
 -- the next instruction, if there is one, or the end
 abbrev pub stepped : List Span → Option Instruction → Activations → ℕ → Step
-stepped preds None s units = returned (resumed s) (top_word s) units
+stepped preds None s units = returned (resumed s) s units
 stepped preds (Some i) s units = acted preds i (onward s) units
 
 -- one step
@@ -74,4 +74,4 @@ step code preds s units = stepped preds (slice_get (part code s.running.place s.
 abbrev pub told : Option Ask → Activations → ℕ → Step
 told None s units = goes_on s units
 told (Some (Read obj field)) s units = asks_for obj field s units
-told (Some (Done plain)) s units = ends plain
+told (Some (Done plain)) s units = ends plain s

@@ -4,6 +4,7 @@
 
 mod asks;
 mod compiling;
+mod evals;
 mod frames;
 mod instructions;
 mod laws;
@@ -13,5 +14,6 @@ mod stacks;
 mod steps;
 
 pub use asks::Ask;
+pub use evals::Eval;
 pub use instructions::Instruction;
 pub use laws::laws_of_code;

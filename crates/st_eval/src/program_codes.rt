@@ -3,6 +3,7 @@ ghost use Rattle.std.specs.Prelude.{◌≡◌, ◌+◌, ◌≤◌, ◌++◌, [],
 ghost use Rattle.st_program.specs.Views.{term_of, check_of, predicate_of, program_of};
 ghost use Rattle.st_eval.specs.StraightCode.{code_of};
 ghost use Rattle.st_eval.specs.Room.{growth, grown};
+ghost use Rattle.st_eval.specs.Steps.{span_of};
 ghost use Rattle.st_eval.specs.Bodies.{AreBodies, IsCodeOf, LaysBodies, check_bodies, predicate_bodies};
 
 use crate::compiling::code_alone;
@@ -129,5 +130,15 @@ fn grown(instruction: Instruction) -> usize
         | Instruction::Shared(_)
         | Instruction::Call { .. } => 1,
         _ => 0,
+    }
+}
+
+/// Where the code of a body stands, by its number. A program that is well formed names no body that it lacks.
+pub(crate) fn span_of(spans: &[Span], number: usize) -> Span
+    ensures { result ≡ span_of spans.now number }
+{
+    match spans.get(number) {
+        None => Span { start: 0, end: 0 },
+        Some(span) => *span,
     }
 }

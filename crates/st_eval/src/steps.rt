@@ -4,12 +4,13 @@ ghost use Rattle.st_meaning.specs.Plain.{verdict_of};
 ghost use Rattle.st_eval.specs.Activations.{onward, popped, resumed, top_word};
 ghost use Rattle.st_eval.specs.Outcomes.{outcome};
 ghost use Rattle.st_eval.specs.Room.{HasOneRoom, IsObject, Needs, NeedsNext, NeedsStep};
-ghost use Rattle.st_eval.specs.Steps.{part, span_of, answered, called, acted, returned, step, told};
+ghost use Rattle.st_eval.specs.Steps.{part, answered, called, acted, returned, step, told};
 
 use crate::asks::Ask;
 use crate::frames::Span;
 use crate::instructions::Instruction;
 use crate::operators::{negate, operate};
+use crate::program_codes::span_of;
 use crate::stacks::Stack;
 use st_events::{Plain, SHARED_OBJECT, Site};
 use st_meaning::MOST_DEPTH;
@@ -52,7 +53,7 @@ fn next_instruction(code: &[Instruction], stack: &mut Stack) -> Option<Instructi
 /// Ends the body that runs. Its top word goes to the last caller; where none waits it is the check's.
 fn leave(stack: &mut Stack) -> Option<Ask>
     requires { NeedsNext None stack.old }
-    ensures { (units : ℕ) → returned (resumed stack.old) (top_word stack.old) units ≡ told result stack.new units }
+    ensures { (units : ℕ) → returned (resumed stack.old) stack.old units ≡ told result stack.new units }
 {
     let word = stack.pop();
     if !stack.resume() {
@@ -210,16 +211,6 @@ fn call(preds: &[Span], stack: &mut Stack, units: &mut u32, pred: u8, args: usiz
         return Some(Ask::Done(Plain::Spent));
     }
     *units -= 1;
-    stack.enter(span_of(preds, pred), args);
+    stack.enter(span_of(preds, usize::from(pred)), args);
     None
-}
-
-/// Where the code of a predicate stands. A program that is well formed calls no predicate that it lacks.
-fn span_of(preds: &[Span], pred: u8) -> Span
-    ensures { result ≡ span_of preds.now pred }
-{
-    match preds.get(usize::from(pred)) {
-        None => Span { start: 0, end: 0 },
-        Some(span) => *span,
-    }
 }

@@ -1,4 +1,4 @@
-use Rattle.std.proofs.Common.{◌≤◌, ◌+◌, ◌∙◌, ap, get_or, drop, arith}
+use Rattle.std.proofs.Common.{◌+◌, ◌∙◌, ap, drop, arith}
 use Rattle.st_eval.specs.Room.{growth}
 use Rattle.st_eval.proofs.BodyLemmas.{growth_further}
 use Rattle.st_eval.proofs.program_codes.growth.Goals as goal
