@@ -13,7 +13,7 @@ use Rattle.st_events.proofs.SoundLemmas.{first_is_sound, next_is_sound}
 use Rattle.st_snap.specs.declared.headers.Target.{Target}
 use Rattle.st_snap.specs.declared.headers.Target.TheVariants.{Copied, Gone}
 use Rattle.st_snap.specs.declared.lanes.Lane.{Lane}
-use Rattle.st_snap.specs.Table.{TableLists, ReadsByForward, AnswersAt, IsSentToCopies, HasWords}
+use Rattle.st_snap.specs.Table.{TableLists, ReadsByForward, AnswersAt, IsLiveUnlessSent, IsSentToCopies, HasWords}
 use Rattle.st_snap.specs.Represents.{Represents, IsTargetOf}
 
 -- ---- no object has more words than there may be fields
@@ -181,3 +181,19 @@ pub sent_to_copies :
 sent_to_copies sizes w t lane l obj r here launched stood = λ header forward copy found forwarded epoch target.
     let v = r.forwards.versions obj lane.index lane.number forward l here launched stood (record { header = header; found = found; forward = forwarded }) in
     (subst (IsTargetOf w.lost t.pool obj lane.number (l.past obj)) target (v.forwarded epoch).1).0
+
+-- where the check is not sent anywhere, the live heap has the cell that it had at the launch
+pub live_unless_sent :
+    (shape : ShapeLists) (sizes : Sizes) (w : World) (t : TableLists) (lane : Lane) (l : Launched) (obj field : ℕ)
+    → IsSoundWorld shape sizes w
+    → Represents sizes w t
+    → slice_get t.lanes lane.index ≡ Some (Some lane.number)
+    → w.launched lane.number ≡ Some l
+    → IsSome (word_at l.past obj field)
+    → IsLiveUnlessSent t lane obj field
+live_unless_sent shape sizes w t lane l obj field s r here launched some = λ header forward found forwarded elsewhere.
+    let stood = cell_has_object l.past obj field some in
+    let v = r.forwards.versions obj lane.index lane.number forward l here launched stood (record { header = header; found = found; forward = forwarded }) in
+    let word = ap (λ (h : Heap). word_at h obj field) r.live.heap
+    ∙ sym (ap (λ (x : Option Object). word_of x field) (s.pasts.same obj lane.number l launched (v.live elsewhere))) in
+    subst IsSome (sym word) some

@@ -1,6 +1,6 @@
 -- The tables of a snapshot heap as lists, and how each call of theirs changes them
 use Rattle.std.specs.Prelude.{◌≡◌, ◌≢◌, ℕ, zero, suc, ◌+◌, ◌*◌, ◌<◌, ◌≤◌, ◌⊎◌}
-use Rattle.std.specs.Prelude.{Bool, true, false, List, [], ◌∷◌, length, filter, position, slice_get, slice_set, slice_index, replicate, Option, Some, None}
+use Rattle.std.specs.Prelude.{Bool, true, false, List, [], ◌∷◌, length, filter, position, slice_get, slice_set, slice_index, replicate, Option, Some, None, IsSome}
 use Rattle.std.specs.List.{Contains}
 use Rattle.st_snap.specs.Terms.{Sizes, ShapeLists, Object, heap_of, word_of, word_at, with_object, with_word, fresh, first_heap}
 use Rattle.st_events.specs.declared.heaps.TheConstants.{FIRST_OF_REGIONS}
@@ -129,6 +129,15 @@ pub record ReadsByForward (t : TableLists) (lane : Lane) (obj field : ℕ) (answ
   pub forwarded : slice_get header.forward lane.index ≡ Some forward
   pub live : forward.epoch ≢ lane.number → answer ≡ word_at (heap_of t.heap) obj field
   pub sent : forward.epoch ≡ lane.number → AnswersAt t.pool field forward.target answer
+
+-- where a check is sent nowhere at an object, the live heap has the cell
+abbrev pub IsLiveUnlessSent : TableLists → Lane → ℕ → ℕ → Type 0
+IsLiveUnlessSent t lane obj field =
+    (header : Header) (forward : Forward)
+    → slice_get t.headers obj ≡ Some header
+    → slice_get header.forward lane.index ≡ Some forward
+    → forward.epoch ≢ lane.number
+    → IsSome (word_at (heap_of t.heap) obj field)
 
 -- each copy that a check is sent to at this header is one of the pool's
 abbrev pub IsSentToCopies : TableLists → Lane → ℕ → Type 0

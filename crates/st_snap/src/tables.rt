@@ -36,7 +36,7 @@ impl Model for Table {
 impl Table {
     ghost use Rattle.st_snap.specs.Lanes.{newest_of};
     ghost use Rattle.st_snap.specs.Pool.{KeptVersion, AreInOrder, is_read};
-    ghost use Rattle.st_snap.specs.Table.{AreFirstTables, Makes, KeepsVersion, Writes, Changes, ChangesWhere, Launches, retired_at, ReadsByForward, IsSentToCopies, HasWords, object_room};
+    ghost use Rattle.st_snap.specs.Table.{AreFirstTables, Makes, KeepsVersion, Writes, Changes, ChangesWhere, Launches, retired_at, ReadsByForward, IsLiveUnlessSent, IsSentToCopies, HasWords, object_room};
 
     /// Before the first event.
     pub fn make(alloc: Global, shape: &Shape, sizes: &Sizes) -> Result<Table, NoMemory>
@@ -180,12 +180,13 @@ impl Table {
         requires lane { lane.now.index < LANES }
         requires header { obj < length self.now.headers }
         requires field { field < MOST_FIELDS }
+        requires live { IsLiveUnlessSent self.now lane.now obj field }
         requires copies { IsSentToCopies self.now lane.now obj }
         ensures { ReadsByForward self.now lane.now obj field result }
     {
         let Forward { epoch, target } = self.headers[obj as usize].forward[lane.index];
         if epoch != lane.number {
-            return self.heap.get(obj, field);
+            return Some(self.load(obj, field));
         }
         match target {
             Target::Copied(copy) => Some(self.pool.word(copy, field)),

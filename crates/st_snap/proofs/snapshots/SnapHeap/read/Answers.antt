@@ -9,7 +9,7 @@ use Rattle.st_snap.specs.Table.{ReadsByForward}
 use Rattle.st_snap.specs.Holds.{Holds}
 use Rattle.st_snap.specs.Snapshots.{IsLaneOf, word_at_launch, is_lost_for}
 use Rattle.st_events.specs.Journal.{Written}
-use Rattle.st_snap.proofs.ReadLemmas.{read_is_right, sent_to_copies, object_is_still_there, object_has_place, cell_has_object, pasts_are_small, field_is_small}
+use Rattle.st_snap.proofs.ReadLemmas.{read_is_right, live_unless_sent, sent_to_copies, object_is_still_there, object_has_place, cell_has_object, pasts_are_small, field_is_small}
 
 -- what the fields show of the lane and the cell
 lane-in :
@@ -42,6 +42,14 @@ read-requires-clause-field c =
     let known = launch_is_known f.shape f.sizes f.journal.events c.args.lane.now.number c.args.obj c.args.field (cell-in c) in
     field_is_small known.0.past c.args.obj c.args.field
     (pasts_are_small f.shape f.sizes f.journal.events c.self.invariant.shape_fits c.self.invariant.legal c.args.lane.now.number known.0 known.1) (rw (← known.2) (cell-in c))
+
+pub read-requires-clause-live : goal.read-requires-clause-live
+read-requires-clause-live c =
+    let f = c.self.inside in
+    let known = launch_is_known f.shape f.sizes f.journal.events c.args.lane.now.number c.args.obj c.args.field (cell-in c) in
+    live_unless_sent f.shape f.sizes (world_after f.shape f.sizes f.journal.events) f.table c.args.lane.now known.0 c.args.obj c.args.field
+    (world_is_sound f.shape f.sizes f.table f.journal c.self.invariant) c.self.invariant.tables
+    (lane_in_table f.shape f.sizes f.table f.journal c.args.lane.now c.self.invariant (lane-in c)) known.1 (rw (← known.2) (cell-in c))
 
 pub read-requires-clause-copies : goal.read-requires-clause-copies
 read-requires-clause-copies c =
