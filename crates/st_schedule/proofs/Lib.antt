@@ -1,2 +1,13 @@
+pub mod AgentLemmas
 pub mod EndLemmas
+pub mod EventLemmas
 pub mod Examples
+pub mod LaterLemmas
+pub mod OwnLemmas
+pub mod ProgressLemmas
+pub mod RetiresLemmas
+pub mod RunLemmas
+pub mod SafeCourses
+pub mod SafeDeedLemmas
+pub mod SafeSteps
+pub mod SoundLemmas

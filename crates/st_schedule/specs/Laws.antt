@@ -1,15 +1,62 @@
 -- Laws of scheduled runs.
-use Rattle.std.specs.Prelude.{◌≡◌}
+use Rattle.std.specs.Prelude.{◌≡◌, ℕ, ◌<◌, length, Some}
 use Rattle.st_events.specs.declared.limits.Sizes.{Sizes}
+use Rattle.st_events.specs.Sizes.{AreWithinLimits}
 use Rattle.st_events.specs.Terms.{ShapeLists}
 use Rattle.st_program.specs.Terms.{Program}
-use Rattle.st_schedule.specs.States.{State}
-use Rattle.st_schedule.specs.Runs.{ComesTo}
+use Rattle.st_program.specs.WellFormed.{IsWellFormed}
+use Rattle.st_threads.specs.Right.{IsRightRun}
+use Rattle.st_schedule.specs.States.{State, first_state}
+use Rattle.st_schedule.specs.Agents.{Agent, mutator, check, next_agent}
+use Rattle.st_schedule.specs.Steps.{turn_of}
+use Rattle.st_schedule.specs.Runs.{ComesTo, ran_of, all_reads_left, all_events_left, scheduled_run}
+use Rattle.st_schedule.specs.SoundStates.{IsSoundState}
 
--- a run comes from a state to one end alone
-abbrev pub ComeToOneEnd : Type 0
-ComeToOneEnd =
-    (shape : ShapeLists) (p : Program) (sizes : Sizes) (s end other : State)
-    → ComesTo shape p sizes s end
-    → ComesTo shape p sizes s other
-    → end ≡ other
+-- what the scheduled run of a well-formed program leaves is right, for every seed and all sizes within the limits whose mutators are its threads
+abbrev pub LeaveRightRuns : Type 0
+LeaveRightRuns =
+    (shape : ShapeLists) (p : Program) (sizes : Sizes) (seed : ℕ)
+    → IsWellFormed shape p
+    → AreWithinLimits sizes
+    → sizes.mutators ≡ length p.threads
+    → IsRightRun shape p sizes (scheduled_run shape p sizes seed)
+
+-- the run of every program comes to an end, and to one alone; the scheduled run is what is left there
+pub record ComeToOneEnd : Type 0 where
+  pub some :
+      (shape : ShapeLists) (p : Program) (sizes : Sizes) (seed : ℕ)
+      → (end : State) × ComesTo shape p sizes (first_state seed) end
+  pub one :
+      (shape : ShapeLists) (p : Program) (sizes : Sizes) (s end other : State)
+      → ComesTo shape p sizes s end
+      → ComesTo shape p sizes s other
+      → end ≡ other
+  pub run :
+      (shape : ShapeLists) (p : Program) (sizes : Sizes) (seed : ℕ) (end : State)
+      → ComesTo shape p sizes (first_state seed) end
+      → scheduled_run shape p sizes seed ≡ ran_of shape p sizes end
+
+-- each state that the run of a well-formed program comes to is sound
+pub record StaySound : Type 0 where
+  pub first : (shape : ShapeLists) (p : Program) (sizes : Sizes) (seed : ℕ) → IsWellFormed shape p → IsSoundState shape p sizes (first_state seed)
+  pub turn :
+      (shape : ShapeLists) (p : Program) (sizes : Sizes) (s : State) (a : Agent)
+      → IsWellFormed shape p
+      → IsSoundState shape p sizes s
+      → next_agent shape p sizes s ≡ Some a
+      → IsSoundState shape p sizes (turn_of shape p sizes s a)
+
+-- each turn of a mutator lowers the events that can still be made; each turn of a check keeps these and lowers the reads that are left
+pub record LowerWhatIsLeft : Type 0 where
+  pub events :
+      (shape : ShapeLists) (p : Program) (sizes : Sizes) (s : State) (m : ℕ)
+      → IsSoundState shape p sizes s
+      → next_agent shape p sizes s ≡ Some (mutator m)
+      → all_events_left sizes (turn_of shape p sizes s (mutator m)) < all_events_left sizes s
+  pub no_event :
+      (shape : ShapeLists) (p : Program) (sizes : Sizes) (s : State) (n : ℕ)
+      → all_events_left sizes (turn_of shape p sizes s (check n)) ≡ all_events_left sizes s
+  pub reads :
+      (shape : ShapeLists) (p : Program) (sizes : Sizes) (s : State) (n : ℕ)
+      → next_agent shape p sizes s ≡ Some (check n)
+      → all_reads_left shape p sizes (turn_of shape p sizes s (check n)) < all_reads_left shape p sizes s

@@ -1,6 +1,6 @@
 -- A scheduled run: turns until no agent is left.
-use Rattle.std.specs.Prelude.{◌≡◌, ℕ, zero, suc, ◌+◌, ◌-◌, ◌*◌, List, ◌++◌, length, map, Option, Some, None}
-use Rattle.std.specs.List.{range_with_len, sum}
+use Rattle.std.specs.Prelude.{◌≡◌, ℕ, zero, suc, ◌+◌, ◌-◌, List, ◌++◌, length, map, Option, Some, None}
+use Rattle.std.specs.List.{range_with_len, sum_by}
 use Rattle.st_events.specs.declared.events.Event.{Event}
 use Rattle.st_events.specs.declared.limits.Sizes.{Sizes}
 use Rattle.st_events.specs.declared.verdicts.End.{End}
@@ -9,7 +9,7 @@ use Rattle.st_events.specs.declared.verdicts.Plain.{Plain}
 use Rattle.st_events.specs.declared.verdicts.Plain.TheVariants.{Fails}
 use Rattle.st_events.specs.declared.verdicts.Verdict.{Verdict}
 use Rattle.st_events.specs.declared.verdicts.Verdict.TheVariants.{Plain as Value, Abandoned}
-use Rattle.st_events.specs.Terms.{ShapeLists, Launched, RanLists, launch_of, epoch_of, active_checks, kept_rows}
+use Rattle.st_events.specs.Terms.{ShapeLists, Launched, RanLists, launch_of, epoch_of, active_checks, kept_rows, own_events}
 use Rattle.st_program.specs.Terms.{Program}
 use Rattle.st_meaning.specs.Plain.{Cell, plain_value}
 use Rattle.st_threads.specs.Right.{words_of}
@@ -63,7 +63,11 @@ reads_left (abandoned_at obj) cells = 0
 -- how many cells all active checks have left to read
 abbrev pub all_reads_left : ShapeLists → Program → Sizes → State → ℕ
 all_reads_left shape p sizes s =
-    sum (map (λ n. reads_left (s.progress n) (cells_of p sizes (launch_of shape sizes s.journal n))) (active_checks shape sizes s.journal))
+    sum_by (λ n. reads_left (s.progress n) (cells_of p sizes (launch_of shape sizes s.journal n))) (active_checks shape sizes s.journal)
+
+-- how many events all mutators can still make, at most
+abbrev pub all_events_left : Sizes → State → ℕ
+all_events_left sizes s = sum_by (λ m. sizes.events - length (own_events m s.journal)) (range_with_len 0 sizes.mutators)
 
 -- a turn, if anyone can take one, and what comes after it: one thing after a check's, another after a mutator's
 abbrev pub after_turn : ShapeLists → Program → Sizes → (State → State) → (State → State) → State → Option Agent → State
@@ -77,13 +81,13 @@ checks_first shape p sizes after_mutator zero s = s
 checks_first shape p sizes after_mutator (suc more) s =
     after_turn shape p sizes (checks_first shape p sizes after_mutator more) after_mutator s (next_agent shape p sizes s)
 
--- The state to which a run comes, where fewer turns of mutators are left than these: between two of them each check's turn is one of
--- the reads that are left. So the numbers only say that there is an end.
+-- The state to which a run comes, with fewer turns of mutators than these: before each of them there are no more turns of checks than
+-- reads are left. So the numbers only say that there is an end.
 abbrev pub state_within : ShapeLists → Program → Sizes → ℕ → State → State
 state_within shape p sizes zero s = s
 state_within shape p sizes (suc more) s =
     checks_first shape p sizes (state_within shape p sizes more) (all_reads_left shape p sizes s + 1) s
 
--- What the run of a program with these sizes and this seed leaves. No mutator has more turns than `events`.
+-- What the run of a program with these sizes and this seed leaves. All mutators have no more turns than `events` allows.
 unfoldable pub scheduled_run : ShapeLists → Program → Sizes → ℕ → RanLists
-scheduled_run shape p sizes seed = ran_of shape p sizes (state_within shape p sizes (sizes.mutators * sizes.events + 1) (first_state seed))
+scheduled_run shape p sizes seed = ran_of shape p sizes (state_within shape p sizes (all_events_left sizes (first_state seed) + 1) (first_state seed))

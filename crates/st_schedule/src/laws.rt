@@ -1,7 +1,10 @@
 //! Laws of scheduled runs, over the definitions of this crate. Nothing is computed: the call states theorems, by its clauses.
-ghost use Rattle.st_schedule.specs.Laws.{ComeToOneEnd};
+ghost use Rattle.st_schedule.specs.Laws.{LeaveRightRuns, ComeToOneEnd, StaySound, LowerWhatIsLeft};
 
-/// What holds of the scheduled runs of every program, with all sizes and seeds: by its turns a run comes to one end alone.
+/// What holds of the scheduled runs of all programs, with every seed.
 pub fn laws_of_schedules()
-    ensures { ComeToOneEnd }
+    ensures right { LeaveRightRuns }
+    ensures end { ComeToOneEnd }
+    ensures sound { StaySound }
+    ensures left { LowerWhatIsLeft }
 {}
