@@ -1,1 +1,4 @@
+pub mod Lines
 pub mod Sites
+pub mod Spaced
+pub mod Words

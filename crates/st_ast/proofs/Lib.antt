@@ -1,0 +1,4 @@
+mod Examples
+pub mod IfLemmas
+pub mod WordEquations
+pub mod WrittenLemmas

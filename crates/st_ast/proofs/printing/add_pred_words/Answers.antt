@@ -1,0 +1,6 @@
+use Rattle.std.proofs.Common.{rules, append_assoc}
+use Rattle.st_ast.proofs.WrittenLemmas.{spaced_join}
+use Rattle.st_ast.proofs.printing.add_pred_words.Goals as goal
+
+pub returns : goal.returns
+returns c = search (rules, append_assoc, spaced_join)
