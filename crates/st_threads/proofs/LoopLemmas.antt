@@ -13,7 +13,7 @@ use Rattle.st_meaning.specs.Meaning.{course_of, courses_of}
 use Rattle.st_meaning.specs.Numbers.{is_true}
 use Rattle.st_threads.specs.declared.limits.TheConstants.{TURN_COST, CALL_COST}
 use Rattle.st_threads.specs.Deeds.{Request, make, store, load, cas, launch, Deed, ends, asks, Means, paying, cost_of, asking}
-use Rattle.st_threads.specs.Statements.{evaluating, no_calls, term_deed, object_deed, target_deed, new_deed, source_deed, names_of, args_of, Steps, one_turn, turns, ProcCalls}
+use Rattle.st_threads.specs.Statements.{evaluating, no_calls, term_deed, object_deed, target_deed, new_deed, source_deed, names_of, values_of, args_of, Steps, one_turn, turns, ProcCalls}
 use Rattle.st_threads.specs.Statements.{command_deed, block_deed}
 use Rattle.st_threads.specs.Threads.{first_locals, body_deed, call_within}
 use Rattle.st_threads.specs.Laws.{LoopByTurns}
@@ -206,7 +206,7 @@ mutual
       evaluating_same (courses_of no_calls args locals) means _ _ (λ words left le.
       hc called words at left (λ behind. rest locals behind) (λ behind. other locals behind) (λ behind le'. h locals behind (omega (arith, le, le'))))
   command_same p calls hc (a_launch site) locals means rest other h =
-      asking_same (launch site (args_of locals (names_of (slice_get p.checks site)))) means (λ _ left. rest locals left) (λ _ left. other locals left) (λ _ left le. h locals left le)
+      asking_same (launch site (args_of (values_of locals (names_of (slice_get p.checks site))))) means (λ _ left. rest locals left) (λ _ left. other locals left) (λ _ left le. h locals left le)
 
   pub block_same : (p : Program) (calls : ProcCalls) → CallsLookBelow calls → (b : Block) → LooksBelow (block_deed p calls b)
   block_same p calls hc no_commands locals means rest other h = h locals means (omega arith)

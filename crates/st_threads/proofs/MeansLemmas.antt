@@ -15,7 +15,7 @@ use Rattle.st_meaning.specs.Meaning.{course_of, courses_of}
 use Rattle.st_meaning.specs.Numbers.{is_true}
 use Rattle.st_threads.specs.declared.limits.TheConstants.{TURN_COST, CALL_COST, MOST_OPEN_CALLS}
 use Rattle.st_threads.specs.Deeds.{Request, make, store, load, cas, launch, Deed, ends, asks, Means, paying, cost_of, asking}
-use Rattle.st_threads.specs.Statements.{evaluating, no_calls, term_deed, object_deed, target_deed, new_deed, source_deed, names_of, args_of, Steps, turns, ProcCalls}
+use Rattle.st_threads.specs.Statements.{evaluating, no_calls, term_deed, object_deed, target_deed, new_deed, source_deed, names_of, values_of, args_of, Steps, turns, ProcCalls}
 use Rattle.st_threads.specs.Statements.{command_deed, block_deed}
 use Rattle.st_threads.specs.Threads.{first_locals, body_deed, call_within, thread_deed, Turn, asks_for, has_ended, reply_of, IsAnswerTo, LeadTo}
 use Rattle.st_threads.specs.Laws.{KeepWithinMeans}
@@ -172,7 +172,7 @@ mutual
   command_within p calls hc (a_proc_call called args at) locals means rest h =
       evaluating_within (courses_of no_calls args locals) means _ (λ words left. hc called words at left (λ behind. rest locals behind) (λ behind. h locals behind))
   command_within p calls hc (a_launch site) locals means rest h =
-      plain_within (launch site (args_of locals (names_of (slice_get p.checks site)))) means (λ _ left. rest locals left) refl (λ _ left. h locals left)
+      plain_within (launch site (args_of (values_of locals (names_of (slice_get p.checks site))))) means (λ _ left. rest locals left) refl (λ _ left. h locals left)
 
   block_within : (p : Program) (calls : ProcCalls) → CallsKeepWithin calls → (b : Block) → KeepsWithin (block_deed p calls b)
   block_within p calls hc no_commands locals means rest h = h locals means

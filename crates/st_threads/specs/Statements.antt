@@ -1,6 +1,6 @@
 -- What statements do, one case a statement. What comes behind a statement is given to it, as `rest`: what the thread does then, from the
 -- locals and the means that are left.
-use Rattle.std.specs.Prelude.{ℕ, zero, suc, ◌-◌, ◌==◌, true, false, List, [], ◌++◌, length, map, replicate, Option, Some, None, unwrap_or, slice_get, slice_set}
+use Rattle.std.specs.Prelude.{ℕ, zero, suc, ◌-◌, ◌==◌, true, false, List, [], ◌++◌, length, map, replicate, take, Option, Some, None, unwrap_or, slice_get, slice_set}
 use Rattle.st_events.specs.declared.events.Args.{Args}
 use Rattle.st_events.specs.declared.events.Site.{Site}
 use Rattle.st_events.specs.declared.heaps.TheConstants.{SHARED_OBJECT}
@@ -66,14 +66,18 @@ source_deed (from_cas target expect value) locals means rest =
     term_deed value locals left (λ word left.
     target_deed target obj (λ o field. cas o field expected word) left rest)))
 
--- the words of these locals, as the arguments of a check
-abbrev pub args_of : List ℕ → List ℕ → Args
-args_of locals names = record { count = length names; words = map (λ name. unwrap_or (slice_get locals name) 0) names ++ replicate (MOST_ARGS - length names) 0 }
+-- the words of the locals with these numbers
+abbrev pub values_of : List ℕ → List ℕ → List ℕ
+values_of locals names = map (λ name. unwrap_or (slice_get locals name) 0) names
 
--- the locals that a check statement takes, if there is one; a well-formed program launches no other
+-- words as the arguments of a check; unused words are 0
+abbrev pub args_of : List ℕ → Args
+args_of words = record { count = length words; words = take MOST_ARGS (words ++ replicate MOST_ARGS 0) }
+
+-- the locals that a check statement takes, if there is one, and no more than there may be; a well-formed program launches no other
 abbrev pub names_of : Option CheckStatement → List ℕ
 names_of None = []
-names_of (Some check) = check.args
+names_of (Some check) = take MOST_ARGS check.args
 
 -- from some locals and means on, what a statement does, and then what comes behind it
 abbrev pub Steps : Type 0
@@ -111,7 +115,7 @@ abbrev mutual
   command_deed p calls (a_proc_call called args at) locals means rest =
       evaluating (courses_of no_calls args locals) means (λ words left. calls called words at left (λ behind. rest locals behind))
   command_deed p calls (a_launch site) locals means rest =
-      asking (launch site (args_of locals (names_of (slice_get p.checks site)))) means (λ _ left. rest locals left)
+      asking (launch site (args_of (values_of locals (names_of (slice_get p.checks site))))) means (λ _ left. rest locals left)
 
   -- statements, one after another
   pub block_deed : Program → ProcCalls → Block → Steps

@@ -1,5 +1,5 @@
 -- What a thread's code does, after the replies that it has had so far, and which events follow it.
-use Rattle.std.specs.Prelude.{◌≡◌, ℕ, zero, suc, ◌-◌, if◌then◌else◌, List, [], ◌∷◌, ◌++◌, length, replicate, Option, Some, None, slice_get}
+use Rattle.std.specs.Prelude.{◌≡◌, ℕ, zero, suc, ◌-◌, if◌then◌else◌, List, [], ◌∷◌, ◌++◌, length, replicate, take, Option, Some, None, slice_get}
 use Rattle.st_events.specs.declared.events.Event.{Event}
 use Rattle.st_events.specs.declared.events.Event.TheVariants.{New, Load, Store, Cas, Launch, Retire}
 use Rattle.st_events.specs.declared.limits.Sizes.{Sizes}
@@ -12,7 +12,7 @@ use Rattle.st_threads.specs.Statements.{ProcCalls, block_deed}
 
 -- the locals of a body at its beginning: the words of its arguments, and 0 for each other local
 abbrev pub first_locals : Routine → List ℕ → List ℕ
-first_locals r words = words ++ replicate (length r.locals - length words) 0
+first_locals r words = take (length r.locals) (words ++ replicate (length r.locals) 0)
 
 -- the body of a procedure or a thread, if there is one; a well-formed program has each that it names
 abbrev pub body_deed : Program → ProcCalls → Option Routine → List ℕ → Means → (Means → Deed) → Deed
