@@ -36,7 +36,7 @@ one_end shape p sizes s end other (by_turn s1 t a some c) (by_turn s2 u b some' 
 -- ---- sums
 
 -- no part is more, and so the sum is not
-sum_stays : (f g : ℕ → ℕ) (ns : List ℕ) → ((k : ℕ) → is_among ns k ≡ true → g k ≤ f k) → sum_by g ns ≤ sum_by f ns
+pub sum_stays : (f g : ℕ → ℕ) (ns : List ℕ) → ((k : ℕ) → is_among ns k ≡ true → g k ≤ f k) → sum_by g ns ≤ sum_by f ns
 sum_stays f g [] le = omega arith
 sum_stays f g (n ∷ ns) le =
     omega (arith, sum_by-cons f n ns, sum_by-cons g n ns, le n (or_first (n == n) (is_among ns n) (same_number n)), sum_stays f g ns (λ k h. le k (or_second (n == k) (is_among ns k) h)))

@@ -6,6 +6,7 @@ pub mod LaterLemmas
 pub mod OwnLemmas
 pub mod ProgressLemmas
 pub mod RetiresLemmas
+pub mod RoomLemmas
 pub mod RunLemmas
 pub mod SafeCourses
 pub mod SafeDeedLemmas

@@ -67,7 +67,7 @@ removed_are_no_more [] ks = omega arith
 removed_are_no_more (n ∷ ns) ks = omega (arith, removed_are_no_more ns (without n ks), passing_are_no_more (λ k. not (k == n)) ks)
 
 -- one that was there is gone
-without_is_less : (n : ℕ) (ks : List ℕ) → is_among ks n ≡ true → length (without n ks) < length ks
+pub without_is_less : (n : ℕ) (ks : List ℕ) → is_among ks n ≡ true → length (without n ks) < length ks
 without_is_less n [] h = absurd (cc)
 without_is_less n (k ∷ ks) h = by (λ there. without_is_less n ks there) (k == n) refl
   where

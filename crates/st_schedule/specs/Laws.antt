@@ -1,8 +1,8 @@
 -- Laws of scheduled runs.
-use Rattle.std.specs.Prelude.{◌≡◌, ℕ, ◌<◌, length, Some}
+use Rattle.std.specs.Prelude.{◌≡◌, ℕ, ◌+◌, ◌*◌, ◌<◌, ◌≤◌, length, Some}
 use Rattle.st_events.specs.declared.limits.Sizes.{Sizes}
 use Rattle.st_events.specs.Sizes.{AreWithinLimits}
-use Rattle.st_events.specs.Terms.{ShapeLists}
+use Rattle.st_events.specs.Terms.{ShapeLists, active_checks, epoch_of}
 use Rattle.st_program.specs.Terms.{Program}
 use Rattle.st_program.specs.WellFormed.{IsWellFormed}
 use Rattle.st_threads.specs.Right.{IsRightRun}
@@ -60,3 +60,15 @@ pub record LowerWhatIsLeft : Type 0 where
       (shape : ShapeLists) (p : Program) (sizes : Sizes) (s : State) (n : ℕ)
       → next_agent shape p sizes s ≡ Some (check n)
       → all_reads_left shape p sizes (turn_of shape p sizes s (check n)) < all_reads_left shape p sizes s
+
+-- no sound state has more events, with one more for the Retire of each active check, than `events` for each mutator; and no more checks than
+-- half of these
+pub record TakeNoMoreRoom : Type 0 where
+  pub events :
+      (shape : ShapeLists) (p : Program) (sizes : Sizes) (s : State)
+      → IsSoundState shape p sizes s
+      → length s.journal + length (active_checks shape sizes s.journal) ≤ sizes.mutators * sizes.events
+  pub checks :
+      (shape : ShapeLists) (p : Program) (sizes : Sizes) (s : State)
+      → IsSoundState shape p sizes s
+      → 2 * epoch_of shape sizes s.journal ≤ sizes.mutators * sizes.events

@@ -1,5 +1,5 @@
 //! Laws of scheduled runs, over the definitions of this crate. Nothing is computed: the call states theorems, by its clauses.
-ghost use Rattle.st_schedule.specs.Laws.{LeaveRightRuns, ComeToOneEnd, StaySound, LowerWhatIsLeft};
+ghost use Rattle.st_schedule.specs.Laws.{LeaveRightRuns, ComeToOneEnd, StaySound, LowerWhatIsLeft, TakeNoMoreRoom};
 
 /// What holds of the scheduled runs of all programs, with every seed.
 pub fn laws_of_schedules()
@@ -7,4 +7,5 @@ pub fn laws_of_schedules()
     ensures end { ComeToOneEnd }
     ensures sound { StaySound }
     ensures left { LowerWhatIsLeft }
+    ensures room { TakeNoMoreRoom }
 {}

@@ -2,6 +2,7 @@ use Rattle.std.proofs.Common.{refl}
 use Rattle.st_schedule.specs.Agents.{mutator, check}
 use Rattle.st_schedule.proofs.AgentLemmas as agents
 use Rattle.st_schedule.proofs.EndLemmas as ends
+use Rattle.st_schedule.proofs.RoomLemmas as room
 use Rattle.st_schedule.proofs.RunLemmas as runs
 use Rattle.st_schedule.proofs.SoundLemmas as sound
 use Rattle.st_schedule.proofs.laws.laws_of_schedules.Goals as goal
@@ -23,4 +24,10 @@ returns-clause-left c = record {
   events = λ shape p sizes s m h chosen. ends.events_fall shape p sizes s m h.led (agents.chosen_is_ready shape p sizes s (mutator m) chosen);
   no_event = λ shape p sizes s n. refl;
   reads = λ shape p sizes s n chosen. ends.reads_fall shape p sizes s n (agents.chosen_is_ready shape p sizes s (check n) chosen);
+}
+
+pub returns-clause-room : goal.returns-clause-room
+returns-clause-room c = record {
+  events = λ shape p sizes s h. (room.sound_state_has_room shape p sizes s h).events;
+  checks = λ shape p sizes s h. (room.sound_state_has_room shape p sizes s h).checks;
 }
