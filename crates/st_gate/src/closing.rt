@@ -8,7 +8,7 @@ ghost use Rattle.st_gate.specs.Exclusion.{ExcludesOthers};
 ghost use Rattle.st_gate.specs.Later.{IsLater};
 ghost use Rattle.st_gate.specs.Others.{HasSeen, others_below};
 ghost use Rattle.st_gate.specs.Phases.{IsAlone, IsOutside, IsClosing};
-ghost use Rattle.st_rule.specs.Seats.{IsSeatOf, HasSeenLegal, sizes_of, told_of};
+ghost use Rattle.st_rule.specs.Seats.{IsSeatOf, IsFair, sizes_of, told_of};
 
 use crate::kinds::Alone;
 use st_events::Judge;
@@ -21,7 +21,7 @@ pub fn open_gate<J: Judge>(shared: &Shared<J>, alone: Alone<J>) -> MutSeat<J>
     requires table { IsSeatOf J.meant shared.now alone.seat }
     ensures phase { IsOutside result }
     ensures later { IsLater alone.seat result }
-    ensures legal { HasSeenLegal result }
+    ensures fair { IsFair result }
 {
     let Alone { mut seat } = alone;
     shared.give_gate(&mut seat);
@@ -33,7 +33,7 @@ pub fn close_gate<J: Judge, R: Wait>(rt: &R, shared: &Shared<J>, seat: MutSeat<J
     requires table { IsSeatOf J.meant shared.now seat }
     requires phase { IsOutside seat }
     ensures later { IsLater seat result.seat }
-    ensures legal { HasSeenLegal result.seat }
+    ensures fair { IsFair result.seat }
     ensures alone { ExcludesOthers (told_of J.meant J.right shared.now) result.seat }
 {
     let mut closer = seat;
@@ -47,7 +47,7 @@ fn take<J: Judge, R: Wait>(rt: &R, shared: &Shared<J>, seat: &mut MutSeat<J>)
     requires table { IsSeatOf J.meant shared.now seat.old }
     requires phase { IsOutside seat.old }
     ensures later { IsLater seat.old seat.new }
-    ensures legal { HasSeenLegal seat.new }
+    ensures fair { IsFair seat.new }
     ensures none { HasSeen seat.new [] }
 {
     for _ in rt.forever() {
@@ -62,9 +62,9 @@ fn take<J: Judge, R: Wait>(rt: &R, shared: &Shared<J>, seat: &mut MutSeat<J>)
 pub(crate) fn see_others<J: Judge, R: Wait>(rt: &R, shared: &Shared<J>, seat: &mut MutSeat<J>)
     requires table { IsSeatOf J.meant shared.now seat.old }
     requires none { HasSeen seat.old [] }
-    requires legal { HasSeenLegal seat.old }
+    requires fair { IsFair seat.old }
     ensures later { IsLater seat.old seat.new }
-    ensures legal { HasSeenLegal seat.new }
+    ensures fair { IsFair seat.new }
     ensures alone { IsAlone seat.new }
 {
     for k in 0..numbers(shared) {
@@ -84,9 +84,9 @@ fn see_number<J: Judge, R: Wait>(rt: &R, shared: &Shared<J>, seat: &mut MutSeat<
     requires table { IsSeatOf J.meant shared.now seat.old }
     requires within { k ≤ seat.old.view.terms.sizes.mutators }
     requires seen { HasSeen seat.old (others_below k seat.old.view.gate.number) }
-    requires legal { HasSeenLegal seat.old }
+    requires fair { IsFair seat.old }
     ensures later { IsLater seat.old seat.new }
-    ensures legal { HasSeenLegal seat.new }
+    ensures fair { IsFair seat.new }
     ensures seen { HasSeen seat.new (others_below (k + 1) seat.new.view.gate.number) }
 {
     if k != seat.number() {
@@ -99,9 +99,9 @@ fn see_clear<J: Judge, R: Wait>(rt: &R, shared: &Shared<J>, seat: &mut MutSeat<J
     requires table { IsSeatOf J.meant shared.now seat.old }
     requires within { k ≤ seat.old.view.terms.sizes.mutators }
     requires closing { IsClosing seat.old }
-    requires legal { HasSeenLegal seat.old }
+    requires fair { IsFair seat.old }
     ensures later { IsLater seat.old seat.new }
-    ensures legal { HasSeenLegal seat.new }
+    ensures fair { IsFair seat.new }
     ensures seen { HasSeen seat.new (k ∷ seat.old.view.gate.clear) }
 {
     for _ in rt.forever() {

@@ -9,7 +9,7 @@
 //! other for ever.
 ghost use Rattle.st_gate.specs.Later.{IsLater};
 ghost use Rattle.st_gate.specs.Phases.{IsOutside};
-ghost use Rattle.st_rule.specs.Seats.{IsSeatOf, HasSeenLegal};
+ghost use Rattle.st_rule.specs.Seats.{IsSeatOf, IsFair};
 
 use crate::kinds::Inside;
 use st_events::Judge;
@@ -22,7 +22,7 @@ pub fn enter<J: Judge, R: Wait>(rt: &R, shared: &Shared<J>, mut seat: MutSeat<J>
     requires table { IsSeatOf J.meant shared.now seat }
     requires phase { IsOutside seat }
     ensures later { IsLater seat result.seat }
-    ensures legal { HasSeenLegal result.seat }
+    ensures fair { IsFair result.seat }
 {
     for _ in rt.forever() {
         shared.flag_in(&mut seat);
@@ -40,7 +40,7 @@ pub fn leave<J: Judge>(shared: &Shared<J>, inside: Inside<J>) -> MutSeat<J>
     requires table { IsSeatOf J.meant shared.now inside.seat }
     ensures phase { IsOutside result }
     ensures later { IsLater inside.seat result }
-    ensures legal { HasSeenLegal result }
+    ensures fair { IsFair result }
 {
     let Inside { seat: mut visitor } = inside;
     shared.flag_out(&mut visitor);

@@ -1,5 +1,5 @@
 -- A join of a mutator's seat into another keeps the rule.
-use Rattle.std.proofs.Common.{◌≡◌, ◌≢◌, ℕ, zero, suc, ◌<◌, ◌≤◌, ◌⊎◌, true, List, ◌∷◌}
+use Rattle.std.proofs.Common.{◌≡◌, ◌≢◌, ℕ, zero, suc, ◌<◌, ◌≤◌, ◌⊎◌, true, List, ◌∷◌, get_or}
 use Rattle.std.proofs.Common.{set, sym, ap, subst, ◌∙◌, arith, ⊎_elim, inl, inr}
 use Rattle.std.specs.Prelude.{All}
 use mathlib.Core.Logic.{dite}
@@ -15,24 +15,24 @@ use Rattle.st_rule.specs.declared.views.Phase.TheVariants.{Outside, Inside, Alon
 use Rattle.st_rule.specs.declared.views.MutView.{MutView}
 use Rattle.st_rule.specs.declared.views.View.{View}
 use Rattle.st_rule.specs.declared.views.View.TheVariants.{Mut, Gone}
-use Rattle.st_rule.specs.Parts.{Sits, JournalPart, GatePart, HandPart, Seating}
+use Rattle.st_rule.specs.Parts.{Sits, JournalPart, GatePart, LoadedPart, HasLoaded, HandPart, IsJoined, Seating}
 use Rattle.st_rule.specs.Rule.{Told, Moment, HoldsAt, IsSoundTable}
 use Rattle.st_rule.specs.Turns.{joined_with}
 use Rattle.st_rule.specs.Views.{seen_by, is_closer}
-use Rattle.st_rule.proofs.PrefixLemmas.{prefix_empty, IsLonger, longer_is, longer_whole}
-use Rattle.st_rule.proofs.TurnLemmas.{all_further}
-use Rattle.st_rule.proofs.ViewLemmas.{set_there, sits_once, mut_is, all_set}
+use Rattle.st_rule.proofs.PrefixLemmas.{prefix_empty, prefix_self, prefix_trans, IsLonger, longer_is, longer_whole}
+use Rattle.st_rule.proofs.ViewLemmas.{set_there, sits_once, mut_is, gone_is_no_mutator, all_set}
+use Rattle.st_rule.proofs.EntryLemmas.{own_between}
+use Rattle.st_rule.specs.Board.{plan_of}
+use Rattle.st_rule.specs.Entries.{own_entries}
 
-gone_is_no_mutator : (u : MutView) → Gone ≡ Mut u → ⊥
-gone_is_no_mutator u e = absurd cc
-
--- one more joined list
-all_joined : (j : JoinedView) (joined : List JoinedView) (seen : List Event) → IsPrefix j.seen seen → All (λ x. IsPrefix x.seen seen) joined → All (λ x. IsPrefix x.seen seen) (j ∷ joined)
-all_joined j joined seen first rest zero d within = first
-all_joined j joined seen first rest (suc k) d within = rest k d (omega (arith, within))
+-- one more joined seat
+all_joined : (P : JoinedView → Type 0) (j : JoinedView) (joined : List JoinedView) → P j → All P joined → All P (j ∷ joined)
+all_joined P j joined first rest zero d within = first
+all_joined P j joined first rest (suc k) d within = rest k d (omega (arith, within))
 
 module _ (told : Told) (id : ℕ) (v : MutView) (other : ℕ) (u : MutView) (m : Moment) (words : List ℕ) (views : List View) (h : HoldsAt told m words views)
-    (sits : Sits views id (Mut v)) (apart : other ≢ id) (sits' : Sits views other (Mut u)) (outside : u.gate.phase ≡ Outside) where
+    (sits : Sits views id (Mut v)) (apart : other ≢ id) (sits' : Sits views other (Mut u)) (outside : u.gate.phase ≡ Outside)
+    (is_mutator : u.gate.number < told.terms.sizes.mutators) where
   abbrev b : MutView
   b = joined_with v u
 
@@ -57,13 +57,21 @@ module _ (told : Told) (id : ℕ) (v : MutView) (other : ℕ) (u : MutView) (m :
   both_sit : Sits views' id (Mut b)
   both_sit = set_else (set views id (Mut b)) other id Gone (λ e. apart (sym e)) ∙ set_there views id (Mut v) (Mut b) sits
 
+  other_gone : Sits views' other Gone
+  other_gone = set_there (set views id (Mut b)) other (Mut u) Gone (set_else views id other (Mut b) apart ∙ sits')
+
   still_sits : (j : ℕ) (x : View) → j ≢ id → j ≢ other → Sits views j x → Sits views' j x
   still_sits j x not_id not_other there = set_else (set views id (Mut b)) other j Gone not_other ∙ set_else views id j (Mut b) not_id ∙ there
 
   whole_seen : (m.journal ≡ v.journal.seen) ⊎ (m.journal ≡ u.journal.seen) → b.journal.seen ≡ m.journal
   whole_seen = longer_whole v.journal.seen u.journal.seen m.journal (h.journal_part.prefixes id (Mut v) sits) (h.journal_part.prefixes other (Mut u) sits')
 
-  journal_joined : JournalPart told.terms m.journal (m.board ClockWord) views'
+  -- the longer list has no more of the number's own events than the whole, and no fewer than the shorter
+  own_longer : own_entries v.gate.number 0 b.journal.seen ≡ v.journal.entries
+  own_longer = own_between v.gate.number v.journal.seen b.journal.seen m.journal v.journal.entries lists.this lists.within
+      (h.journal_part.own_seen id v sits) (h.journal_part.own id v sits)
+
+  journal_joined : JournalPart told.terms m.journal (m.board ClockWord) m.split views'
   journal_joined = record {
     legal = h.journal_part.legal;
     prefixes = all_set (λ j x. IsPrefix (seen_by x) m.journal) (set views id (Mut b)) other Gone (prefix_empty m.journal)
@@ -75,6 +83,11 @@ module _ (told : Told) (id : ℕ) (v : MutView) (other : ℕ) (u : MutView) (m :
         (λ not_other. (whole.0, whole.1, still_sits whole.0 whole.1 not_id not_other whole.2, whole.3)));
     tickets = h.journal_part.tickets;
     copies_drawn = h.journal_part.copies_drawn;
+    own = all_join (λ j x. own_entries x.gate.number 0 m.journal ≡ x.journal.entries) (h.journal_part.own id v sits) (λ j x not_id not_other there. h.journal_part.own j x there);
+    own_seen = all_join (λ j x. own_entries x.gate.number 0 x.journal.seen ≡ x.journal.entries) own_longer (λ j x not_id not_other there. h.journal_part.own_seen j x there);
+    own_unsplit = h.journal_part.own_unsplit;
+    charged = h.journal_part.charged;
+    paid = h.journal_part.paid;
   }
 
   gate_joined : GatePart told.terms.sizes.mutators (λ n. m.board (FlagWord n)) (m.board ClosingWord) m.phase m.seat m.split m.journal views'
@@ -93,17 +106,43 @@ module _ (told : Told) (id : ℕ) (v : MutView) (other : ℕ) (u : MutView) (m :
         (h.gate_part.split_off id v sits) (λ j x not_id not_other there. h.gate_part.split_off j x there);
   }
 
-  hands_joined : HandPart views'
+  -- who was joined before is still gone
+  joined_kept : (seen : List Event) (joined : List JoinedView) (more : List Event) → IsPrefix seen more → All (IsJoined m.seat m.split m.journal views seen) joined
+      → All (IsJoined m.seat m.split m.journal views' more) joined
+  joined_kept seen joined more goes all k d within = let old = all k d within in
+      let n : ℕ = m.seat (get_or joined k d).number in
+      let not_id : n ≢ id = λ e. gone_is_no_mutator v (sits_once views id Gone (Mut v) (subst (λ i. Sits views i Gone) e old.gone) sits) in
+      let not_other : n ≢ other = λ e. gone_is_no_mutator u (sits_once views other Gone (Mut u) (subst (λ i. Sits views i Gone) e old.gone) sits') in
+      record {
+        goes_on = prefix_trans (get_or joined k d).seen seen more old.goes_on goes;
+        below = old.below;
+        gone = still_sits n Gone not_id not_other old.gone;
+        own = old.own;
+      }
+
+  hands_joined : HandPart m.seat m.split m.journal views'
   hands_joined = record {
-    joined = all_join (λ j x. All (λ y. IsPrefix y.seen x.journal.seen) x.hands.joined)
-        (all_joined (record { number = u.gate.number; seen = u.journal.seen; entries = u.journal.entries }) v.hands.joined b.journal.seen lists.that
-        (all_further v.hands.joined v.journal.seen b.journal.seen lists.this (h.hand_part.joined id v sits)))
-        (λ j x not_id not_other there. h.hand_part.joined j x there);
+    joined = all_join (λ j x. All (IsJoined m.seat m.split m.journal views' x.journal.seen) x.hands.joined)
+        (all_joined (IsJoined m.seat m.split m.journal views' b.journal.seen) (record { number = u.gate.number; seen = u.journal.seen; entries = u.journal.entries }) v.hands.joined
+        (record {
+          goes_on = lists.that;
+          below = h.gate_part.split_off other u sits' is_mutator;
+          gone = subst (λ i. Sits views' i Gone) (sym (h.gate_part.one_view_each other u sits')) other_gone;
+          own = h.journal_part.own other u sits';
+        })
+        (joined_kept v.journal.seen v.hands.joined b.journal.seen lists.this (h.hand_part.joined id v sits)))
+        (λ j x not_id not_other there. joined_kept x.journal.seen x.hands.joined x.journal.seen (prefix_self x.journal.seen) (h.hand_part.joined j x there));
   }
 
-  seating_joined : Seating told.terms m.phase m.seat m.split views'
+  loaded_joined : LoadedPart (plan_of told.terms.sizes) m.board views'
+  loaded_joined = record {
+    loaded = all_join (λ j x. HasLoaded (plan_of told.terms.sizes) m.board x) (h.loaded_part.loaded id v sits) (λ j x not_id not_other there. h.loaded_part.loaded j x there);
+  }
+
+  seating_joined : Seating told.terms m.phase m.grip m.seat m.split views'
   seating_joined = record {
     phases = all_join (λ j x. m.phase x.gate.number ≡ x.gate.phase) (h.seating.phases id v sits) (λ j x not_id not_other there. h.seating.phases j x there);
+    grips = all_join (λ j x. m.grip x.gate.number ≡ x.held) (h.seating.grips id v sits) (λ j x not_id not_other there. h.seating.grips j x there);
     numbers = all_join (λ j x. x.gate.number ≤ told.terms.sizes.mutators) (h.seating.numbers id v sits) (λ j x not_id not_other there. h.seating.numbers j x there);
     told = all_join (λ j x. x.terms ≡ told.terms) (h.seating.told id v sits) (λ j x not_id not_other there. h.seating.told j x there);
     counts = all_join (λ j x. x.gate.number ≡ told.terms.sizes.mutators → x.gate.split ≡ m.split) (h.seating.counts id v sits) (λ j x not_id not_other there. h.seating.counts j x there);
@@ -125,9 +164,13 @@ module _ (told : Told) (id : ℕ) (v : MutView) (other : ℕ) (u : MutView) (m :
   join_keeps_at : HoldsAt told m words views'
   join_keeps_at = record {
     limits = h.limits;
+    shape_limits = h.shape_limits;
     displayed = h.displayed;
     journal_part = journal_joined;
     gate_part = gate_joined;
+    board_part = h.board_part;
+    loaded_part = loaded_joined;
+    object_part = h.object_part;
     hand_part = hands_joined;
     seating = seating_joined;
   }
@@ -136,6 +179,7 @@ module _ (told : Told) (id : ℕ) (v : MutView) (other : ℕ) (u : MutView) (m :
 pub join_keeps :
     (told : Told) (id : ℕ) (v : MutView) (other : ℕ) (u : MutView)
     → u.gate.phase ≡ Outside
+    → u.gate.number < told.terms.sizes.mutators
     → Joins (IsSoundTable told) id (Mut v) other (Mut u) (Mut (joined_with v u)) Gone
-join_keeps told id v other u outside s sound sits apart sits' =
-    (sound.0, join_keeps_at told id v other u sound.0 s.words s.views sound.1 sits apart (sym (set_else s.views id other (Mut (joined_with v u)) apart) ∙ sits') outside)
+join_keeps told id v other u outside is_mutator s sound sits apart sits' =
+    (sound.0, join_keeps_at told id v other u sound.0 s.words s.views sound.1 sits apart (sym (set_else s.views id other (Mut (joined_with v u)) apart) ∙ sits') outside is_mutator)

@@ -1,5 +1,5 @@
 -- A split of a mutator's seat keeps the rule.
-use Rattle.std.proofs.Common.{◌≡◌, ◌≢◌, ℕ, zero, suc, ◌+◌, ◌<◌, ◌≤◌, ◌⊎◌, true, List, [], ◌∷◌, ◌++◌}
+use Rattle.std.proofs.Common.{◌≡◌, ◌≢◌, ℕ, zero, suc, ◌+◌, ◌<◌, ◌≤◌, ◌⊎◌, true, List, [], ◌∷◌, ◌++◌, Option, Some, None, get_or}
 use Rattle.std.proofs.Common.{length, set, sym, refl, ap, subst, ◌∙◌, arith, ⊎_elim, inl, inr, length-set}
 use Rattle.std.specs.Prelude.{All}
 use mathlib.Core.Logic.{dite}
@@ -15,12 +15,18 @@ use Rattle.st_rule.specs.declared.views.Phase.TheVariants.{Outside, Inside, Alon
 use Rattle.st_rule.specs.declared.views.Terms.{Terms}
 use Rattle.st_rule.specs.declared.views.MutView.{MutView}
 use Rattle.st_rule.specs.declared.views.View.{View}
-use Rattle.st_rule.specs.declared.views.View.TheVariants.{Mut}
-use Rattle.st_rule.specs.Parts.{Sits, JournalPart, GatePart, HandPart, Seating}
+use Rattle.st_rule.specs.declared.views.View.TheVariants.{Mut, Gone}
+use Rattle.st_rule.specs.Parts.{Sits, JournalPart, GatePart, LoadedPart, HasLoaded, HandPart, IsJoined, Seating}
 use Rattle.st_rule.specs.Rule.{Told, Moment, HoldsAt, IsSoundTable}
 use Rattle.st_rule.specs.Turns.{split_one, newcomer}
 use Rattle.st_rule.specs.Views.{seen_by, is_closer}
-use Rattle.st_rule.proofs.ViewLemmas.{set_there, sits_once, mut_is, all_set, all_mut_set, at_here, at_else}
+use Rattle.st_rule.specs.declared.views.Held.{Held}
+use Rattle.st_rule.specs.Board.{plan_of}
+use Rattle.st_rule.specs.Entries.{own_entries}
+use Rattle.st_events.specs.declared.events.Event.{Event}
+use Rattle.st_rule.proofs.EntryLemmas.{own_none}
+use Rattle.st_rule.proofs.LoadedLemmas.{nothing_loaded}
+use Rattle.st_rule.proofs.ViewLemmas.{set_there, sits_once, mut_is, gone_is_no_mutator, all_set, all_mut_set, at_here, at_else}
 
 -- what stands at the end of a longer list is its last element
 at_end : {A : Type 0} → (xs : List A) (a b : A) (j : ℕ) → get_elem? (xs ++ a ∷ []) j ≡ some b → (get_elem? xs j ≡ some b) ⊎ ((j ≡ length xs) × (a ≡ b))
@@ -72,7 +78,38 @@ module _ (told : Told) (id : ℕ) (v : MutView) (m : Moment) (words : List ℕ) 
   left_sits : Sits views' id (Mut l)
   left_sits = at_longer (set views id (Mut l)) (Mut r ∷ []) id (Mut l) (set_there views id (Mut v) (Mut l) sits)
 
-  journal_split : JournalPart told.terms m.journal (m.board ClockWord) views'
+  -- and has no events
+  no_events : own_entries v.gate.split 0 m.journal ≡ []
+  no_events = h.journal_part.own_unsplit v.gate.split (omega (arith, split_is)) some_left
+
+  -- and holds nothing
+  empty_at : (hand : Option Held) → m.grip v.gate.split ≡ hand → hand ≡ None
+  empty_at None is = refl
+  empty_at (Some x) is =
+      let inside = h.object_part.only_inside v.gate.split x.object (record { held = x; is = is; object_is = refl }) in
+      let e : Outside ≡ Inside = sym was_outside ∙ inside in absurd cc
+
+  loaded_split : LoadedPart (plan_of told.terms.sizes) m.board views'
+  loaded_split = record {
+    loaded = all_split (λ j u. HasLoaded (plan_of told.terms.sizes) m.board u) (h.loaded_part.loaded id v sits)
+        (nothing_loaded (plan_of told.terms.sizes) m.board r refl) (λ j u other there. h.loaded_part.loaded j u there);
+  }
+
+  -- who was joined is still gone, and still was split off before
+  joined_kept : (j : ℕ) (u : MutView) → Sits views j (Mut u) → (seen : List Event) → u.journal.seen ≡ seen → All (IsJoined seat' (m.split + 1) m.journal views' seen) u.hands.joined
+  joined_kept j u there seen same k d within = let old = h.hand_part.joined j u there k d within in
+      let n : ℕ = (get_or u.hands.joined k d).number in
+      let other : n ≢ v.gate.split = λ e. let b : n < m.split = old.below in absurd (omega (arith, e, b, split_is)) in
+      let seat_is : seat' n ≡ m.seat n = at_else v.gate.split (length views) m.seat n other in
+      let not_id : m.seat n ≢ id = λ e. gone_is_no_mutator v (sits_once views id Gone (Mut v) (subst (λ i. Sits views i Gone) e old.gone) sits) in
+      record {
+        goes_on = subst (λ es. IsPrefix (get_or u.hands.joined k d).seen es) same old.goes_on;
+        below = let b : n < m.split = old.below in omega (arith, b);
+        gone = subst (λ i. Sits views' i Gone) (sym seat_is) (still_sits (m.seat n) Gone not_id old.gone);
+        own = old.own;
+      }
+
+  journal_split : JournalPart told.terms m.journal (m.board ClockWord) (m.split + 1) views'
   journal_split = record {
     legal = h.journal_part.legal;
     prefixes = λ j x there. ⊎_elim
@@ -84,6 +121,13 @@ module _ (told : Told) (id : ℕ) (v : MutView) (m : Moment) (words : List ℕ) 
         (λ other. (whole.0, whole.1, still_sits whole.0 whole.1 other whole.2, whole.3));
     tickets = h.journal_part.tickets;
     copies_drawn = h.journal_part.copies_drawn;
+    own = all_split (λ j u. own_entries u.gate.number 0 m.journal ≡ u.journal.entries) (h.journal_part.own id v sits) no_events (λ j u other there. h.journal_part.own j u there);
+    own_seen = all_split (λ j u. own_entries u.gate.number 0 u.journal.seen ≡ u.journal.entries) (h.journal_part.own_seen id v sits)
+        (own_none v.gate.split v.journal.seen m.journal (h.journal_part.prefixes id (Mut v) sits) no_events)
+        (λ j u other there. h.journal_part.own_seen j u there);
+    own_unsplit = λ n beyond below. h.journal_part.own_unsplit n (omega (arith, beyond)) below;
+    charged = h.journal_part.charged;
+    paid = h.journal_part.paid;
   }
 
   gate_split : GatePart told.terms.sizes.mutators (λ n. m.board (FlagWord n)) (m.board ClosingWord) m.phase seat' (m.split + 1) m.journal views'
@@ -107,15 +151,16 @@ module _ (told : Told) (id : ℕ) (v : MutView) (m : Moment) (words : List ℕ) 
         (λ j u other there below. let old : u.gate.number < m.split = h.gate_part.split_off j u there below in omega (arith, old));
   }
 
-  hands_split : HandPart views'
+  hands_split : HandPart seat' (m.split + 1) m.journal views'
   hands_split = record {
-    joined = all_split (λ j u. All (λ x. IsPrefix x.seen u.journal.seen) u.hands.joined)
-        (h.hand_part.joined id v sits) (λ k d within. absurd (omega (arith, within))) (λ j u other there. h.hand_part.joined j u there);
+    joined = all_split (λ j u. All (IsJoined seat' (m.split + 1) m.journal views' u.journal.seen) u.hands.joined)
+        (joined_kept id v sits v.journal.seen refl) (λ k d within. absurd (omega (arith, within))) (λ j u other there. joined_kept j u there u.journal.seen refl);
   }
 
-  seating_split : Seating told.terms m.phase seat' (m.split + 1) views'
+  seating_split : Seating told.terms m.phase m.grip seat' (m.split + 1) views'
   seating_split = record {
     phases = all_split (λ j u. m.phase u.gate.number ≡ u.gate.phase) (h.seating.phases id v sits) was_outside (λ j u other there. h.seating.phases j u there);
+    grips = all_split (λ j u. m.grip u.gate.number ≡ u.held) (h.seating.grips id v sits) (empty_at (m.grip v.gate.split) refl) (λ j u other there. h.seating.grips j u there);
     numbers = all_split (λ j u. u.gate.number ≤ told.terms.sizes.mutators) (h.seating.numbers id v sits) (omega (arith, some_left)) (λ j u other there. h.seating.numbers j u there);
     told = all_split (λ j u. u.terms ≡ told.terms) (h.seating.told id v sits) (h.seating.told id v sits) (λ j u other there. h.seating.told j u there);
     counts = all_split (λ j u. u.gate.number ≡ told.terms.sizes.mutators → u.gate.split ≡ m.split + 1)
@@ -142,9 +187,13 @@ module _ (told : Told) (id : ℕ) (v : MutView) (m : Moment) (words : List ℕ) 
   split_keeps_at : HoldsAt told (record m { seat = seat'; split = m.split + 1 }) words views'
   split_keeps_at = record {
     limits = h.limits;
+    shape_limits = h.shape_limits;
     displayed = h.displayed;
     journal_part = journal_split;
     gate_part = gate_split;
+    board_part = h.board_part;
+    loaded_part = loaded_split;
+    object_part = h.object_part;
     hand_part = hands_split;
     seating = seating_split;
   }

@@ -1,36 +1,45 @@
--- A turn of the gate: one seat's phase changes, and with it at most the closing word or the seat's flag. This one lemma serves
--- all six steps of the gate.
-use Rattle.std.proofs.Common.{◌≡◌, ◌≢◌, ℕ, ◌+◌, ◌<◌, ◌≤◌, ◌⊎◌, true, List, length, get_or, set, sym, ap, subst, ◌∙◌}
+-- A turn: one seat's view changes, and with it at most a word of the gate, or the header, class or a field of one object, while no event is drawn.
+-- This one lemma serves all steps but the draw.
+use Rattle.std.proofs.Common.{◌≡◌, ◌≢◌, ℕ, ◌+◌, ◌<◌, ◌≤◌, ◌⊎◌, true, List, length, Option, refl, get_or, set, sym, ap, subst, ◌∙◌}
 use Rattle.std.proofs.Common.{arith, ⊎_elim, inl, inr}
 use Rattle.std.specs.Prelude.{All}
 use mathlib.Core.Logic.{◌↔◌, dite}
 use native.Mathlib.Decide.{ℕ_discrete}
 use mathlib.Core.List.{IsPrefix}
-use Rattle.st_layout.specs.Names.{ClosingWord, ClockWord, FlagWord}
+use Rattle.st_layout.specs.Names.{WordName, ClosingWord, ClockWord, EpochWord, AvailableWord, FlagWord, LaneWord, ClassWord, HeaderWord, ForwardWord, FieldWord}
+use Rattle.st_events.specs.declared.limits.Sizes.{Sizes}
 use Rattle.st_events.specs.declared.events.Event.{Event}
 use Rattle.st_events.specs.World.{at, is_among}
 use Rattle.st_rule.specs.declared.views.Phase.{Phase}
 use Rattle.st_rule.specs.declared.views.Phase.TheVariants.{Inside, Alone}
 use Rattle.st_layout.specs.Packed.{high_half, low_half}
+use Rattle.st_rule.specs.declared.views.Held.{Held}
 use Rattle.st_rule.specs.declared.views.JoinedView.{JoinedView}
 use Rattle.st_rule.specs.declared.views.MutView.{MutView}
 use Rattle.st_rule.specs.declared.views.View.{View}
-use Rattle.st_rule.specs.declared.views.View.TheVariants.{Mut}
+use Rattle.st_rule.specs.declared.views.View.TheVariants.{Mut, Gone}
 use Rattle.st_rule.specs.Board.{Board, Displays, plan_of}
-use Rattle.st_rule.specs.Parts.{Sits, JournalPart, GatePart, HandPart, Seating}
+use Rattle.st_rule.specs.Board.{stays_loaded}
+use Rattle.st_rule.specs.Parts.{Sits, JournalPart, GatePart, BoardPart, LoadedPart, HasLoaded, ObjectPart, HandPart, IsJoined, Seating}
 use Rattle.atomic_table.specs.Table.{State}
-use Rattle.st_rule.specs.Rule.{Told, Moment, HoldsAt, IsSoundTable}
+use Rattle.st_rule.specs.Rule.{Told, Moment, HoldsAt, IsSoundTable, world_of}
+use Rattle.st_rule.specs.Entries.{own_entries}
 use Rattle.st_rule.specs.Views.{seen_by, flag_of, is_closer}
-use Rattle.st_rule.proofs.ViewLemmas.{set_there, sits_once, mut_is, all_set, all_mut_set, at_here, at_else}
+use Rattle.st_rule.proofs.ViewLemmas.{set_there, sits_once, mut_is, gone_is_no_mutator, all_set, all_mut_set, at_here, at_else}
 use Rattle.st_rule.proofs.PrefixLemmas.{prefix_self, prefix_trans}
 use Rattle.atomic_table.proofs.Lists.{set_else}
 
--- what no turn changes of a view
-pub record StaysSeated (v w : MutView) : Type 0 where
+-- what no step changes of a view
+pub record StaysPut (v w : MutView) : Type 0 where
   pub terms : w.terms ≡ v.terms
   pub number : w.gate.number ≡ v.gate.number
   pub split : w.gate.split ≡ v.gate.split
   pub joined : w.hands ≡ v.hands
+
+-- and what is left too where no event is drawn
+pub record StaysSeated (v w : MutView) : Type 0 where
+  pub put : StaysPut v w
+  pub entries : w.journal.entries ≡ v.journal.entries
 
 -- what the words say of the phases
 pub record WordsTell (mutators : ℕ) (board : Board) (phase : ℕ → Phase) : Type 0 where
@@ -39,17 +48,39 @@ pub record WordsTell (mutators : ℕ) (board : Board) (phase : ℕ → Phase) : 
   pub nobody_closes : (board ClosingWord ≡ 0) ⊎ ((n : ℕ) × (n ≤ mutators) × (board ClosingWord ≡ n + 1))
 
 -- what the new view has to show of itself
-pub record TurnsTo (m : Moment) (mutators : ℕ) (w : MutView) : Type 0 where
+pub record TurnsTo (m : Moment) (sizes : Sizes) (w : MutView) : Type 0 where
   pub clear : is_closer w.gate.phase ≡ true → (n : ℕ) → is_among w.gate.clear n ≡ true → at w.gate.number w.gate.phase m.phase n ≢ Inside
-  pub saw_all : w.gate.phase ≡ Alone → (n : ℕ) → n ≤ mutators → n ≢ w.gate.number → is_among w.gate.clear n ≡ true
+  pub saw_all : w.gate.phase ≡ Alone → (n : ℕ) → n ≤ sizes.mutators → n ≢ w.gate.number → is_among w.gate.clear n ≡ true
   pub saw_journal : w.gate.phase ≡ Alone → w.journal.seen ≡ m.journal
   pub open_inside : w.gate.phase ≡ Inside → (m.board ClosingWord ≡ 0) ⊎ (m.phase w.gate.number ≡ Inside)
+  pub loaded : HasLoaded (plan_of sizes) m.board w
 
--- a longer list has the same prefixes
-pub all_further : (joined : List JoinedView) (seen longer : List Event) → IsPrefix seen longer → All (λ x. IsPrefix x.seen seen) joined → All (λ x. IsPrefix x.seen longer) joined
-all_further joined seen longer goes all = λ k d within. prefix_trans (get_or joined k d).seen seen longer (all k d within) goes
+-- the board's words, and those that only who is alone keeps, are as before
+abbrev pub LeavesBoard : Board → Board → Type 0
+LeavesBoard before after = (p : Phase) (name : WordName) → stays_loaded p name ≡ true → after name ≡ before name
 
-module _ (told : Told) (m : Moment) (words : List ℕ) (views : List View) (h : HoldsAt told m words views) (id : ℕ) (v w : MutView) (sits : Sits views id (Mut v)) (stays : StaysSeated v w) where
+-- what was joined is still a prefix of a longer list, and nobody has sat down where a joined seat was
+pub joined_still :
+    (seat : ℕ → ℕ) (split : ℕ) (journal : List Event) (views views' : List View) (seen longer : List Event) (joined : List JoinedView)
+    → IsPrefix seen longer
+    → ((j : ℕ) → Sits views j Gone → Sits views' j Gone)
+    → All (IsJoined seat split journal views seen) joined
+    → All (IsJoined seat split journal views' longer) joined
+joined_still seat split journal views views' seen longer joined goes still all = λ k d within. let old = all k d within in record {
+  goes_on = prefix_trans (get_or joined k d).seen seen longer old.goes_on goes;
+  below = old.below;
+  gone = still (seat (get_or joined k d).number) old.gone;
+  own = old.own;
+}
+
+-- where a mutator's seat is, nobody was joined away
+pub still_gone : (views : List View) (id : ℕ) (v : MutView) (w : View) → Sits views id (Mut v) → (j : ℕ) → Sits views j Gone → Sits (set views id w) j Gone
+still_gone views id v w sits j gone =
+    let other : j ≢ id = λ same. gone_is_no_mutator v (sits_once views id Gone (Mut v) (subst (λ k. Sits views k Gone) same gone) sits) in
+    set_else views id j w other ∙ gone
+
+module _ (told : Told) (m : Moment) (words : List ℕ) (views : List View) (h : HoldsAt told m words views) (id : ℕ) (v w : MutView) (sits : Sits views id (Mut v)) (stays : StaysPut v w)
+    (grip' : ℕ → Option Held) (grip_here : grip' w.gate.number ≡ w.held) (grip_else : (k : ℕ) → k ≢ w.gate.number → grip' k ≡ m.grip k) where
   abbrev pub phases' : ℕ → Phase
   phases' = at w.gate.number w.gate.phase m.phase
 
@@ -71,11 +102,13 @@ module _ (told : Told) (m : Moment) (words : List ℕ) (views : List View) (h : 
   number_fits = subst (λ n. n ≤ told.terms.sizes.mutators) (sym stays.number) (h.seating.numbers id v sits)
 
   -- who sits where after the turn
-  seating_after : Seating told.terms phases' m.seat m.split views'
+  pub seating_after : Seating told.terms phases' grip' m.seat m.split views'
   seating_after = record {
     phases = all_mut_set (λ j u. phases' u.gate.number ≡ u.gate.phase) views id w
         (at_here w.gate.number w.gate.phase m.phase)
         (λ j u other there. at_else w.gate.number w.gate.phase m.phase u.gate.number (apart j u other there) ∙ h.seating.phases j u there);
+    grips = all_mut_set (λ j u. grip' u.gate.number ≡ u.held) views id w grip_here
+        (λ j u other there. grip_else u.gate.number (apart j u other there) ∙ h.seating.grips j u there);
     numbers = all_mut_set (λ j u. u.gate.number ≤ told.terms.sizes.mutators) views id w number_fits (λ j u other there. h.seating.numbers j u there);
     told = all_mut_set (λ j u. u.terms ≡ told.terms) views id w (stays.terms ∙ h.seating.told id v sits) (λ j u other there. h.seating.told j u there);
     counts = all_mut_set (λ j u. u.gate.number ≡ told.terms.sizes.mutators → u.gate.split ≡ m.split) views id w
@@ -102,7 +135,8 @@ module _ (told : Told) (m : Moment) (words : List ℕ) (views : List View) (h : 
         (h.seating.seated n));
   }
 
-  module _ (turns : TurnsTo m told.terms.sizes.mutators w) (seen : (w.journal.seen ≡ v.journal.seen) ⊎ (w.journal.seen ≡ m.journal)) where
+  module _ (turns : TurnsTo m told.terms.sizes w) (seen : (w.journal.seen ≡ v.journal.seen) ⊎ (w.journal.seen ≡ m.journal))
+      (same_entries : w.journal.entries ≡ v.journal.entries) where
     seen_fits : IsPrefix w.journal.seen m.journal
     seen_fits = ⊎_elim
         (λ same. subst (λ es. IsPrefix es m.journal) (sym same) (h.journal_part.prefixes id (Mut v) sits))
@@ -131,22 +165,62 @@ module _ (told : Told) (m : Moment) (words : List ℕ) (views : List View) (h : 
         (λ other. (whole.0, whole.1, set_else views id whole.0 (Mut w) other ∙ whole.2, whole.3))
 
     -- what was joined is still a prefix
-    hands_after : HandPart views'
+    hands_after : HandPart m.seat m.split m.journal views'
     hands_after = record {
-      joined = all_mut_set (λ j u. All (λ x. IsPrefix x.seen u.journal.seen) u.hands.joined) views id w
-          (subst (λ hands. All (λ x. IsPrefix x.seen w.journal.seen) hands.joined) (sym stays.joined)
-          (all_further v.hands.joined v.journal.seen w.journal.seen seen_goes_on (h.hand_part.joined id v sits)))
-          (λ j u other there. h.hand_part.joined j u there);
+      joined = all_mut_set (λ j u. All (IsJoined m.seat m.split m.journal views' u.journal.seen) u.hands.joined) views id w
+          (subst (λ hands. All (IsJoined m.seat m.split m.journal views' w.journal.seen) hands.joined) (sym stays.joined)
+          (joined_still m.seat m.split m.journal views views' v.journal.seen w.journal.seen v.hands.joined seen_goes_on (still_gone views id v (Mut w) sits)
+          (h.hand_part.joined id v sits)))
+          (λ j u other there. joined_still m.seat m.split m.journal views views' u.journal.seen u.journal.seen u.hands.joined (prefix_self u.journal.seen)
+          (still_gone views id v (Mut w) sits) (h.hand_part.joined j u there));
     }
 
-    module _ (board' : Board) (same_clock : board' ClockWord ≡ m.board ClockWord) (tell : WordsTell told.terms.sizes.mutators board' phases') where
-      journal_after : JournalPart told.terms m.journal (board' ClockWord) views'
+    -- the entries of each view are still its own events
+    own_same : own_entries w.gate.number 0 m.journal ≡ w.journal.entries
+    own_same = ap (λ n. own_entries n 0 m.journal) stays.number ∙ h.journal_part.own id v sits ∙ sym same_entries
+
+    own_seen_same : own_entries w.gate.number 0 w.journal.seen ≡ w.journal.entries
+    own_seen_same = ⊎_elim
+        (λ same. (λ i. own_entries (stays.number i) 0 (same i)) ∙ h.journal_part.own_seen id v sits ∙ sym same_entries)
+        (λ whole. ap (own_entries w.gate.number 0) whole ∙ own_same)
+        seen
+
+    module _ (board' : Board) (quiet : LeavesBoard m.board board') (tell : WordsTell told.terms.sizes.mutators board' phases') (holder' : ℕ → ℕ)
+        (objects : ObjectPart told.terms.sizes (world_of told.terms m) phases' grip' holder' (λ o. board' (HeaderWord o)) (λ o. board' (ClassWord o))
+        (λ o f. board' (FieldWord o f)) (λ o l. board' (ForwardWord o l))) where
+      same_clock : board' ClockWord ≡ m.board ClockWord
+      same_clock = quiet Alone ClockWord refl
+
+      journal_after : JournalPart told.terms m.journal (board' ClockWord) m.split views'
       journal_after = record {
         legal = h.journal_part.legal;
         prefixes = all_set (λ j u. IsPrefix (seen_by u) m.journal) views id (Mut w) seen_fits (λ j u other there. h.journal_part.prefixes j u there);
         seen_whole = seen_whole_after;
         tickets = subst (λ c. high_half c ≡ length m.journal) (sym same_clock) h.journal_part.tickets;
         copies_drawn = subst (λ c. low_half c ≤ length m.journal) (sym same_clock) h.journal_part.copies_drawn;
+        own = all_mut_set (λ j u. own_entries u.gate.number 0 m.journal ≡ u.journal.entries) views id w own_same (λ j u other there. h.journal_part.own j u there);
+        own_seen = all_mut_set (λ j u. own_entries u.gate.number 0 u.journal.seen ≡ u.journal.entries) views id w own_seen_same
+            (λ j u other there. h.journal_part.own_seen j u there);
+        own_unsplit = h.journal_part.own_unsplit;
+        charged = h.journal_part.charged;
+        paid = h.journal_part.paid;
+      }
+
+      board_after : BoardPart told.terms.sizes (world_of told.terms m) (board' EpochWord) (board' AvailableWord) (board' ClockWord) (λ l. board' (LaneWord l))
+      board_after =
+          let lane_is : (l : ℕ) → board' (LaneWord l) ≡ m.board (LaneWord l) = λ l. quiet Inside (LaneWord l) refl in
+          record {
+            epoch_is = quiet Inside EpochWord refl ∙ h.board_part.epoch_is;
+            lanes = λ n active. let l = h.board_part.lanes n active in (l.0, l.1, lane_is l.0 ∙ l.2, λ k within same. l.3 k within (sym (lane_is k) ∙ same));
+            idle = λ l within. ⊎_elim (λ none. inl (lane_is l ∙ none)) (λ one. inr (ap (is_among (world_of told.terms m).active) (lane_is l) ∙ one)) (h.board_part.idle l within);
+            unlaunched = λ none. let u = h.board_part.unlaunched none in (quiet Inside AvailableWord refl ∙ u.0, ap low_half same_clock ∙ u.1);
+          }
+
+      loaded_after : LoadedPart (plan_of told.terms.sizes) board' views'
+      loaded_after = record {
+        loaded = all_mut_set (λ j u. HasLoaded (plan_of told.terms.sizes) board' u) views id w
+            (λ name has keeps word found. quiet w.gate.phase name keeps ∙ turns.loaded name has keeps word found)
+            (λ j u other there name has keeps word found. quiet u.gate.phase name keeps ∙ h.loaded_part.loaded j u there name has keeps word found);
       }
 
       -- a number that another closer saw clear did not go Inside at this turn: the closing word was not 0
@@ -176,15 +250,19 @@ module _ (told : Told) (m : Moment) (words : List ℕ) (views : List View) (h : 
 
       -- the moment after the turn
       abbrev pub turned : Moment
-      turned = record m { board = board'; phase = phases' }
+      turned = record m { board = board'; phase = phases'; grip = grip'; holder = holder' }
 
       -- after the turn every part holds
       pub turn : (words' : List ℕ) → Displays (plan_of told.terms.sizes) words' board' → HoldsAt told turned words' views'
       turn words' displays = record {
         limits = h.limits;
+        shape_limits = h.shape_limits;
         displayed = displays;
         journal_part = journal_after;
         gate_part = gate_after;
+        board_part = board_after;
+        loaded_part = loaded_after;
+        object_part = objects;
         hand_part = hands_after;
         seating = seating_after;
       }

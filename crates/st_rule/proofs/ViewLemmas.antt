@@ -9,7 +9,7 @@ use Rattle.atomic_table.proofs.Lists.{at_set}
 use Rattle.st_events.specs.World.{at}
 use Rattle.st_rule.specs.declared.views.MutView.{MutView}
 use Rattle.st_rule.specs.declared.views.View.{View}
-use Rattle.st_rule.specs.declared.views.View.TheVariants.{Mut}
+use Rattle.st_rule.specs.declared.views.View.TheVariants.{Mut, Gone}
 use Rattle.st_rule.specs.Parts.{Sits}
 use Rattle.st_rule.specs.Views.{mutator_of}
 
@@ -22,6 +22,9 @@ set_there (x ∷ xs) (suc i) a b e = set_there xs i a b e
 -- one seat has one view
 pub sits_once : (views : List View) (id : ℕ) (x y : View) → Sits views id x → Sits views id y → x ≡ y
 sits_once views id x y p q = some-injective x y (sym p ∙ q)
+
+pub gone_is_no_mutator : (u : MutView) → Gone ≡ Mut u → ⊥
+gone_is_no_mutator u e = absurd cc
 
 pub mut_is : (v w : MutView) → Mut v ≡ Mut w → v ≡ w
 mut_is v w e = ap mutator_of e

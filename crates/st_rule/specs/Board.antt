@@ -5,6 +5,8 @@ use Rattle.st_layout.specs.declared.plans.Plan.{Plan}
 use Rattle.st_layout.specs.Names.{WordName, ClosingWord, ClockWord, EpochWord, AvailableWord, FlagWord, LaneWord, ClassWord, HeaderWord}
 use Rattle.st_layout.specs.Names.{ForwardWord, FieldWord, CopyWord, FreeWord, RowWord, HasWord}
 use Rattle.st_layout.specs.Layout.{word_of, words_of}
+use Rattle.st_rule.specs.declared.views.Phase.{Phase}
+use Rattle.st_rule.specs.declared.views.Phase.TheVariants.{Outside, Entering, Inside, Closing, Alone}
 
 -- the value of each word
 abbrev pub Board : Type 0
@@ -51,3 +53,18 @@ abbrev pub first_board : Plan → Board
 first_board plan AvailableWord = plan.copies
 first_board plan (FreeWord index) = index
 first_board plan name = 0
+
+-- the words of which a seat in this phase may keep what it has loaded: only a closer changes the board, and only who is inside or alone the rest
+abbrev pub stays_loaded : Phase → WordName → Bool
+stays_loaded Inside EpochWord = true
+stays_loaded Inside AvailableWord = true
+stays_loaded Inside (LaneWord lane) = true
+stays_loaded Inside (FreeWord index) = true
+stays_loaded Alone EpochWord = true
+stays_loaded Alone AvailableWord = true
+stays_loaded Alone (LaneWord lane) = true
+stays_loaded Alone (FreeWord index) = true
+stays_loaded Alone ClockWord = true
+stays_loaded Alone (CopyWord copy index) = true
+stays_loaded Alone (ForwardWord object lane) = true
+stays_loaded phase name = false

@@ -1,6 +1,9 @@
 pub mod Board
 pub mod Views
+pub mod Entries
+pub mod Holding
 pub mod Turns
+pub mod Draws
 pub mod Parts
 pub mod Rule
 pub mod Keys

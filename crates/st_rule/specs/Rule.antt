@@ -1,17 +1,20 @@
 -- The rule of the shared table: what holds between any two steps, whatever the threads do.
-use Rattle.std.specs.Prelude.{ℕ, List, [], None}
+use Rattle.std.specs.Prelude.{ℕ, List, [], Option, None}
 use Rattle.atomic_table.specs.Table.{State}
-use Rattle.st_layout.specs.Names.{ClosingWord, ClockWord, FlagWord}
+use Rattle.st_layout.specs.Names.{ClosingWord, ClockWord, EpochWord, AvailableWord, FlagWord, LaneWord, ClassWord, HeaderWord, ForwardWord, FieldWord}
 use Rattle.st_events.specs.declared.events.Event.{Event}
 use Rattle.st_events.specs.declared.verdicts.Verdict.{Verdict}
+use Rattle.st_events.specs.Shape.{IsWithinLimits}
 use Rattle.st_events.specs.Sizes.{AreWithinLimits}
+use Rattle.st_events.specs.World.{World, world_after}
+use Rattle.st_rule.specs.declared.views.Held.{Held}
 use Rattle.st_rule.specs.declared.views.Phase.{Phase}
 use Rattle.st_rule.specs.declared.views.Phase.TheVariants.{Outside}
 use Rattle.st_rule.specs.declared.views.Terms.{Terms}
 use Rattle.st_rule.specs.declared.views.MutView.{MutView}
 use Rattle.st_rule.specs.declared.views.View.{View}
 use Rattle.st_rule.specs.Board.{Board, Displays, plan_of}
-use Rattle.st_rule.specs.Parts.{JournalPart, GatePart, HandPart, Seating}
+use Rattle.st_rule.specs.Parts.{JournalPart, GatePart, BoardPart, LoadedPart, ObjectPart, HandPart, Seating}
 
 -- what a table is told once: the terms, and which verdicts are right after which events
 pub record Told : Type 1 where
@@ -26,19 +29,34 @@ pub record Moment : Type 0 where
   pub journal : List Event
   -- the phase of each number; Outside where no seat has it
   pub phase : ℕ → Phase
+  -- what each number holds
+  pub grip : ℕ → Option Held
+  -- the low half of each object's header: 0, or one more than the number that holds it
+  pub holder : ℕ → ℕ
   -- the seat of each number
   pub seat : ℕ → ℕ
   -- how many mutators' seats were split off
   pub split : ℕ
 
 -- the words and the views are those of the moment, and every part holds
+-- all that the journal of the moment says
+abbrev pub world_of : Terms → Moment → World
+world_of terms m = world_after terms.shape terms.sizes m.journal
+
 pub record HoldsAt (told : Told) (m : Moment) (words : List ℕ) (views : List View) : Type 0 where
   pub limits : AreWithinLimits told.terms.sizes
+  pub shape_limits : IsWithinLimits told.terms.shape
   pub displayed : Displays (plan_of told.terms.sizes) words m.board
-  pub journal_part : JournalPart told.terms m.journal (m.board ClockWord) views
+  pub journal_part : JournalPart told.terms m.journal (m.board ClockWord) m.split views
   pub gate_part : GatePart told.terms.sizes.mutators (λ n. m.board (FlagWord n)) (m.board ClosingWord) m.phase m.seat m.split m.journal views
-  pub hand_part : HandPart views
-  pub seating : Seating told.terms m.phase m.seat m.split views
+  pub board_part :
+      BoardPart told.terms.sizes (world_of told.terms m) (m.board EpochWord) (m.board AvailableWord) (m.board ClockWord) (λ l. m.board (LaneWord l))
+  pub loaded_part : LoadedPart (plan_of told.terms.sizes) m.board views
+  pub object_part :
+      ObjectPart told.terms.sizes (world_of told.terms m) m.phase m.grip m.holder (λ o. m.board (HeaderWord o)) (λ o. m.board (ClassWord o))
+      (λ o f. m.board (FieldWord o f)) (λ o l. m.board (ForwardWord o l))
+  pub hand_part : HandPart m.seat m.split m.journal views
+  pub seating : Seating told.terms m.phase m.grip m.seat m.split views
 
 -- the rule: there is such a moment
 abbrev pub IsSoundTable : Told → State Unit View → Type 0
@@ -50,6 +68,8 @@ first_view terms = record {
   terms = terms;
   tally = record { steps = 0; found = None };
   gate = record { number = terms.sizes.mutators; phase = Outside; clear = []; split = 0 };
+  board = record { loaded = [] };
   journal = record { seen = []; entries = [] };
+  held = None;
   hands = record { joined = [] };
 }

@@ -1,18 +1,17 @@
 -- What contracts see of a table and its seats.
-use Rattle.std.specs.Prelude.{◌≡◌, ℕ, ◌<◌, true, List, map}
+use Rattle.std.specs.Prelude.{◌≡◌, ℕ, ◌<◌, true, List, map, None}
 use Rattle.atomic_table.specs.Seated.{TableId}
 use Rattle.st_events.specs.declared.events.Event.{Event}
 use Rattle.st_events.specs.declared.limits.Sizes.{Sizes}
 use Rattle.st_events.specs.declared.verdicts.Verdict.{Verdict}
 use Rattle.st_events.specs.Shape.{ShapeLists}
-use Rattle.st_events.specs.Legal.{IsLegal}
 use Rattle.st_events.specs.World.{is_among}
 use Rattle.st_rule.specs.declared.tables.Shared.{Shared}
 use Rattle.st_rule.specs.declared.views.Terms.{Terms}
 use Rattle.st_rule.specs.declared.views.MutView.{MutView}
 use Rattle.st_rule.specs.Keys.{terms_by, told_by}
 use Rattle.st_rule.specs.Rule.{Told}
-use Rattle.st_rule.specs.SeatValue.{SeatValue}
+use Rattle.st_rule.specs.SeatValue.{SeatValue, IsFairView}
 
 -- which table it is
 abbrev pub table_of : {J : Type 0} → Shared J → TableId
@@ -32,9 +31,13 @@ pub record IsSameSeat (before after : SeatValue) : Type 0 where
   pub table : after.table ≡ before.table
   pub id : after.id ≡ before.id
 
--- what the seat has seen of the journal is legal
-abbrev pub HasSeenLegal : SeatValue → Type 0
-HasSeenLegal seat = IsLegal seat.view.terms.shape seat.view.terms.sizes seat.view.journal.seen
+-- what the seat has seen of the journal is legal, its own events there are its entries, in order, and its terms are within the limits
+abbrev pub IsFair : SeatValue → Type 0
+IsFair seat = IsFairView seat.view
+
+-- the seat holds no object
+abbrev pub HoldsNothing : SeatValue → Type 0
+HoldsNothing seat = seat.view.held ≡ None
 
 -- the judge of the table's checks
 abbrev pub judge_of : {J : Type 0} → Shared J → J

@@ -1,13 +1,21 @@
 -- What each step makes of the view of its seat.
-use Rattle.std.specs.Prelude.{ℕ, zero, suc, ◌+◌, ◌-◌, ◌==◌, ◌&&◌, ◌||◌, Bool, true, if◌then◌else◌, List, [], ◌∷◌, length}
-use Rattle.std.specs.Prelude.{nat_lt, Some, None}
-use Rattle.st_layout.specs.declared.words.TheConstants.{FIRST_FLAG}
+use Rattle.std.specs.Prelude.{ℕ, zero, suc, ◌+◌, ◌-◌, ◌/◌, ◌==◌, ◌&&◌, ◌||◌, Bool, true, if◌then◌else◌, List, [], ◌∷◌, length}
+use Rattle.std.specs.Prelude.{nat_lt, Option, Some, None}
+use Rattle.st_layout.specs.declared.plans.Plan.{Plan}
+use Rattle.st_layout.specs.declared.words.TheConstants.{FIRST_FLAG, CELL_WORDS}
+use Rattle.st_layout.specs.Layout.{word_of, first_cell}
+use Rattle.st_layout.specs.Names.{FieldWord}
+use Rattle.st_layout.specs.Packed.{packed}
 use Rattle.st_events.specs.declared.events.Event.{Event}
 use Rattle.st_events.specs.World.{is_among}
 use Rattle.st_rule.specs.declared.views.Phase.{Phase}
 use Rattle.st_rule.specs.declared.views.Phase.TheVariants.{Outside, Entering, Inside, Closing, Alone}
 use Rattle.st_rule.specs.declared.views.Tally.{Tally}
 use Rattle.st_rule.specs.declared.views.GateView.{GateView}
+use Rattle.st_rule.specs.declared.views.BoardView.{BoardView}
+use Rattle.st_rule.specs.declared.views.Held.{Held}
+use Rattle.st_rule.specs.declared.views.Flight.{Flight}
+use Rattle.st_rule.specs.declared.views.LoadedField.{LoadedField}
 use Rattle.st_rule.specs.declared.views.MutView.{MutView}
 use Rattle.st_rule.specs.declared.views.View.{View}
 use Rattle.st_rule.specs.declared.views.View.TheVariants.{Mut, Lane, Gone}
@@ -37,13 +45,21 @@ closer_phase mutators number clear = if saw_below (suc mutators) number clear th
 abbrev pub closing : ℕ → List ℕ → GateView → GateView
 closing mutators clear g = record g { phase = closer_phase mutators g.number clear; clear = clear }
 
--- flag in: Outside to Entering
-abbrev pub flagged_in : MutView → MutView
-flagged_in v = record v { tally = counted v.tally; gate = record v.gate { phase = Entering } }
+-- nothing was loaded of the board yet
+abbrev pub no_board : BoardView
+no_board = record { loaded = [] }
 
--- look: Entering to Inside, where the closing word is 0
+-- flag in: Outside to Entering; who is Outside holds nothing
+abbrev pub flagged_in : MutView → MutView
+flagged_in v = record v { tally = counted v.tally; gate = record v.gate { phase = Entering }; held = None }
+
+-- look: Entering to Inside, where the closing word is 0; nothing was loaded of the board since then
 abbrev pub looked_at : Bool → ℕ → MutView → MutView
-looked_at is_open word v = record v { tally = counted_with word v.tally; gate = if is_open then record v.gate { phase = Inside } else v.gate }
+looked_at is_open word v = record v {
+  tally = counted_with word v.tally;
+  gate = if is_open then record v.gate { phase = Inside } else v.gate;
+  board = if is_open then no_board else v.board;
+}
 
 abbrev pub looked : ℕ → MutView → MutView
 looked word v = looked_at (word == 0) word v
@@ -58,6 +74,7 @@ abbrev pub took : Bool → ℕ → List Event → MutView → MutView
 took was_open word seen v = record v {
   tally = counted_with word v.tally;
   gate = if was_open then closing v.terms.sizes.mutators [] v.gate else v.gate;
+  board = if was_open then no_board else v.board;
   journal = if was_open then record v.journal { seen = seen } else v.journal;
 }
 
@@ -69,6 +86,7 @@ abbrev pub saw_flag : Bool → ℕ → ℕ → List Event → MutView → MutVie
 saw_flag is_clear k word seen v = record v {
   tally = counted_with word v.tally;
   gate = if is_clear then closing v.terms.sizes.mutators (k ∷ v.gate.clear) v.gate else v.gate;
+  board = if is_clear then no_board else v.board;
   journal = if is_clear then record v.journal { seen = seen } else v.journal;
 }
 
@@ -79,9 +97,62 @@ saw k word seen v = saw_flag (word == 0) k word seen v
 abbrev pub gave_gate : MutView → MutView
 gave_gate v = record v { tally = counted v.tally; gate = record v.gate { phase = Outside; clear = [] } }
 
+-- last look: the clock's word, and the journal as it is then
+abbrev pub looked_last : ℕ → List Event → MutView → MutView
+looked_last word seen v = record v { tally = counted_with word v.tally; journal = record v.journal { seen = seen } }
+
+-- board load: the word is one of those that were loaded since the seat went inside
+abbrev pub board_loaded : ℕ → ℕ → MutView → MutView
+board_loaded place word v = record v { tally = counted_with word v.tally; board = record { loaded = record { word = place; value = word } ∷ v.board.loaded } }
+
+-- lock: where the header was this one, the object is held; none of its fields is loaded yet
+abbrev pub locked_at : Bool → (object stamp word : ℕ) → MutView → MutView
+locked_at was_free object stamp word v = record v {
+  tally = counted_with word v.tally;
+  held = if was_free then Some (record { object = object; stamp = stamp; loaded = []; flight = None }) else v.held;
+}
+
+abbrev pub locked : (object stamp word : ℕ) → MutView → MutView
+locked object stamp word v = locked_at (word == packed stamp 0) object stamp word v
+
+-- unlock: nothing is held
+abbrev pub unlocked : MutView → MutView
+unlocked v = record v { tally = counted v.tally; held = None }
+
+-- the hand with one more field loaded
+abbrev pub with_field : (field word : ℕ) → Option Held → Option Held
+with_field field word None = None
+with_field field word (Some h) = Some (record h { loaded = record { field = field; value = word } ∷ h.loaded })
+
+-- field load: the word is the field's while the object is held
+abbrev pub field_found : (field word : ℕ) → MutView → MutView
+field_found field word v = record v { tally = counted_with word v.tally; held = with_field field word v.held }
+
+-- what is in flight, once its field or class word is written
+abbrev pub landed : Option Flight → Option Flight
+landed None = None
+landed (Some x) = Some (record x { written = true })
+
+-- the hand once the word of what is in flight is written; what was loaded of the fields before is not known any more
+abbrev pub with_written : Option Held → Option Held
+with_written None = None
+with_written (Some h) = Some (record h { loaded = []; flight = landed h.flight })
+
+-- field store and class store: only the header is left of what is in flight
+abbrev pub word_written : MutView → MutView
+word_written v = record v { tally = counted v.tally; held = with_written v.held }
+
 -- the number whose flag a word is
 abbrev pub number_of_flag : ℕ → ℕ
 number_of_flag word = word - FIRST_FLAG
+
+-- the object whose header a word is
+abbrev pub object_of_header : Plan → ℕ → ℕ
+object_of_header plan word = (word - first_cell plan) / CELL_WORDS
+
+-- the field of an object that a word is
+abbrev pub field_of_word : Plan → (object word : ℕ) → ℕ
+field_of_word plan object word = word - word_of plan (FieldWord object 0)
 
 -- split, as the main thread sees it: one more mutator's seat is out
 abbrev pub split_one : MutView → MutView
@@ -93,7 +164,9 @@ newcomer v = record {
   terms = v.terms;
   tally = record { steps = 0; found = None };
   gate = record { number = v.gate.split; phase = Outside; clear = []; split = 0 };
+  board = no_board;
   journal = record { seen = v.journal.seen; entries = [] };
+  held = None;
   hands = record { joined = [] };
 }
 

@@ -35,7 +35,9 @@ nobody = record {
   terms = record { shape = record { classes = []; checks = [] }; sizes = record { mutators = 0; lanes = 0; objects = 0; copies = 0; events = 0; calls = 0 } };
   tally = record { steps = 0; found = None };
   gate = record { number = 0; phase = Outside; clear = []; split = 0 };
+  board = record { loaded = [] };
   journal = record { seen = []; entries = [] };
+  held = None;
   hands = record { joined = [] };
 }
 

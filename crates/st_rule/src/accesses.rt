@@ -11,7 +11,7 @@
 ghost use Rattle.std.specs.Prelude.{◌≡◌, ◌+◌, ◌≤◌, ◌⊎◌, Some};
 ghost use Rattle.st_rule.specs.declared.views.Phase.TheVariants.{Outside, Entering, Inside, Closing, Alone};
 ghost use Rattle.st_rule.specs.Plays.{Finds, FindsAndLearns};
-ghost use Rattle.st_rule.specs.Seats.{IsSeatOf, IsSameSeat, HasSeenLegal};
+ghost use Rattle.st_rule.specs.Seats.{IsSeatOf, IsSameSeat, IsFair, HoldsNothing};
 ghost use Rattle.st_rule.specs.Turns.{flagged_in, looked, flagged_out, took_gate, saw, gave_gate};
 
 use crate::plays::{FlagIn, FlagOut, GiveGate, Look, See, TakeGate};
@@ -26,7 +26,7 @@ impl<J: Judge> Shared<J> {
         requires phase { seat.old.view.gate.phase ≡ Outside }
         requires up { value ≡ 1 }
         ensures seat { IsSameSeat seat.old seat.new }
-        ensures legal { HasSeenLegal seat.new }
+        ensures fair { IsFair seat.new }
         ensures view { seat.new.view ≡ flagged_in seat.old.view }
     {
         let word = self.flag_place(seat.number());
@@ -39,9 +39,10 @@ impl<J: Judge> Shared<J> {
     pub(crate) fn store_flag_out(&self, seat: &mut MutSeat<J>, value: u64)
         requires table { IsSeatOf J.meant self.now seat.old }
         requires phase { (seat.old.view.gate.phase ≡ Entering) ⊎ (seat.old.view.gate.phase ≡ Inside) }
+        requires hand { HoldsNothing seat.old }
         requires down { value ≡ 0 }
         ensures seat { IsSameSeat seat.old seat.new }
-        ensures legal { HasSeenLegal seat.new }
+        ensures fair { IsFair seat.new }
         ensures view { seat.new.view ≡ flagged_out seat.old.view }
     {
         let word = self.flag_place(seat.number());
@@ -55,7 +56,7 @@ impl<J: Judge> Shared<J> {
         requires table { IsSeatOf J.meant self.now seat.old }
         requires phase { seat.old.view.gate.phase ≡ Entering }
         ensures seat { IsSameSeat seat.old seat.new }
-        ensures legal { HasSeenLegal seat.new }
+        ensures fair { IsFair seat.new }
         ensures view { Finds looked seat.old.view seat.new.view }
         ensures found { seat.new.view.tally.found ≡ Some result }
     {
@@ -69,7 +70,7 @@ impl<J: Judge> Shared<J> {
         requires phase { seat.old.view.gate.phase ≡ Outside }
         requires own { taken ≡ seat.old.view.gate.number + 1 }
         ensures seat { IsSameSeat seat.old seat.new }
-        ensures legal { HasSeenLegal seat.new }
+        ensures fair { IsFair seat.new }
         ensures view { FindsAndLearns took_gate seat.old.view seat.new.view }
         ensures found { seat.new.view.tally.found ≡ Some result }
     {
@@ -85,7 +86,7 @@ impl<J: Judge> Shared<J> {
         requires phase { seat.old.view.gate.phase ≡ Closing }
         requires within { k ≤ seat.old.view.terms.sizes.mutators }
         ensures seat { IsSameSeat seat.old seat.new }
-        ensures legal { HasSeenLegal seat.new }
+        ensures fair { IsFair seat.new }
         ensures view { FindsAndLearns (saw k) seat.old.view seat.new.view }
         ensures found { seat.new.view.tally.found ≡ Some result }
     {
@@ -99,7 +100,7 @@ impl<J: Judge> Shared<J> {
         requires phase { seat.old.view.gate.phase ≡ Alone }
         requires nobody { value ≡ 0 }
         ensures seat { IsSameSeat seat.old seat.new }
-        ensures legal { HasSeenLegal seat.new }
+        ensures fair { IsFair seat.new }
         ensures view { seat.new.view ≡ gave_gate seat.old.view }
     {
         let word = self.closing_place();

@@ -6,6 +6,8 @@ mod accesses;
 mod closing;
 mod keys;
 mod making;
+mod object_accesses;
+mod object_steps;
 mod passing;
 mod places;
 mod plays;

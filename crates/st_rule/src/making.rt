@@ -58,6 +58,8 @@ impl<J: Judge> Shared<J> {
         ensures table { IfOk result (λ made. IsSeatOf J.meant made.0 made.1) }
         ensures view { IfOk result (λ made. made.1.view ≡ first_view (terms_of J.meant made.0)) }
     {
+        // The shape of every judge is within the limits.
+        let _shape = judge.shape();
         let plan = plan_for(sizes);
         let words = first_words(alloc, plan)?;
         let key = Key {

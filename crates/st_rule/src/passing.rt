@@ -2,10 +2,10 @@
 //!
 //! Why no two seats have one number: only the main thread's seat is split, it counts how many it handed out, and each new seat has the next
 //! number. A seat is joined only where it is Outside, so no flag and no closing word is left of a number that nobody has any more.
-ghost use Rattle.std.specs.Prelude.{◌≡◌, ◌<◌, [], IfOk, OnOk, OnErr};
+ghost use Rattle.std.specs.Prelude.{◌≡◌, ◌<◌, ◌≤◌, [], IfOk, OnOk, OnErr, vec_capacity};
 ghost use Rattle.st_rule.specs.declared.views.Phase.TheVariants.{Outside};
 ghost use Rattle.st_rule.specs.declared.views.View.TheVariants.{Gone};
-ghost use Rattle.st_rule.specs.Seats.{IsSeatOf, IsSameSeat, IsMain, IsMutator, HasSeenLegal};
+ghost use Rattle.st_rule.specs.Seats.{IsSeatOf, IsSameSeat, IsMain, IsMutator, IsFair};
 ghost use Rattle.st_rule.specs.Turns.{left_of, right_of, both_of, split_one, newcomer, joined_with};
 
 use crate::seats::{MutSeat, SeatLog};
@@ -57,13 +57,15 @@ impl<J: Judge> Shared<J> {
         Ok(self.hand_out(main, m, entries))
     }
 
-    /// Splits the seat of mutator `m` off, with an empty list for its events.
+    /// Splits the seat of mutator `m` off, with an empty list for its events, which has room for all that its charge allows.
     fn hand_out(&self, main: &mut MutSeat<J>, m: u8, entries: Vec<Entry>) -> MutSeat<J>
         requires table { IsSeatOf J.meant self.now main.old }
         requires main { IsMain main.old }
         requires next { m ≡ main.old.view.gate.split }
         requires mutator { m < main.old.view.terms.sizes.mutators }
+        requires unseen { main.old.view.journal.seen ≡ [] }
         requires entries { entries.items ≡ [] }
+        requires reserved { main.old.view.terms.sizes.events ≤ vec_capacity entries }
         ensures same { IsSameSeat main.old main.new }
         ensures table { IsSeatOf J.meant self.now result }
         ensures new { result.view ≡ newcomer main.old.view }
@@ -82,7 +84,7 @@ impl<J: Judge> Shared<J> {
         requires mutator { IsMutator seat }
         requires phase { seat.view.gate.phase ≡ Outside }
         ensures same { IsSameSeat main.old main.new }
-        ensures legal { HasSeenLegal main.new }
+        ensures fair { IsFair main.new }
         ensures view { main.new.view ≡ joined_with main.old.view seat.view }
         ensures log { result ≡ seat.view.journal.entries }
     {

@@ -1,7 +1,8 @@
-//! What a table tells of itself, and where the words of the gate are.
+//! What a table tells of itself, and where its words are.
 ghost use Rattle.std.specs.Prelude.{◌≡◌, ◌<◌, ◌≤◌};
+ghost use Rattle.st_layout.specs.declared.limits.TheConstants.{MOST_FIELDS};
 ghost use Rattle.st_layout.specs.Layout.{word_of};
-ghost use Rattle.st_layout.specs.Names.{ClosingWord, FlagWord};
+ghost use Rattle.st_layout.specs.Names.{ClosingWord, ClockWord, FlagWord, ClassWord, HeaderWord, FieldWord, cells_of};
 ghost use Rattle.st_rule.specs.Board.{plan_of};
 ghost use Rattle.st_rule.specs.Seats.{sizes_of, table_of};
 
@@ -39,5 +40,41 @@ impl<J: Judge> Shared<J> {
         ensures within { result < (table_of self.now).words }
     {
         self.plan.closing_word() as usize
+    }
+
+    /// The word that tickets are drawn from.
+    pub(crate) fn clock_place(&self) -> usize
+        ensures place { result ≡ word_of (plan_of (sizes_of self.now)) ClockWord }
+        ensures within { result < (table_of self.now).words }
+    {
+        self.plan.clock_word() as usize
+    }
+
+    /// The word of an object's header.
+    pub(crate) fn header_place(&self, obj: u32) -> usize
+        requires { obj < cells_of (plan_of (sizes_of self.now)) }
+        ensures place { result ≡ word_of (plan_of (sizes_of self.now)) (HeaderWord obj) }
+        ensures within { result < (table_of self.now).words }
+    {
+        self.plan.header_word(obj) as usize
+    }
+
+    /// The word of an object's class number.
+    pub(crate) fn class_place(&self, obj: u32) -> usize
+        requires { obj < cells_of (plan_of (sizes_of self.now)) }
+        ensures place { result ≡ word_of (plan_of (sizes_of self.now)) (ClassWord obj) }
+        ensures within { result < (table_of self.now).words }
+    {
+        self.plan.class_word(obj) as usize
+    }
+
+    /// The word of a field of an object.
+    pub(crate) fn field_place(&self, obj: u32, field: u8) -> usize
+        requires object { obj < cells_of (plan_of (sizes_of self.now)) }
+        requires field { field < MOST_FIELDS }
+        ensures place { result ≡ word_of (plan_of (sizes_of self.now)) (FieldWord obj field) }
+        ensures within { result < (table_of self.now).words }
+    {
+        self.plan.field_word(obj, field) as usize
     }
 }

@@ -1,9 +1,15 @@
 //! What each step tells. These types stand in proofs alone.
-ghost use Rattle.st_rule.specs.Plays.{Becomes, Learns};
+ghost use Rattle.std.specs.Prelude.{[]};
+ghost use Rattle.st_events.specs.declared.events.Event.{Event};
+ghost use Rattle.st_events.specs.declared.events.Event.TheVariants.{Retire};
+ghost use Rattle.st_layout.specs.Packed.{high_half};
+ghost use Rattle.st_rule.specs.Plays.{Becomes, Learns, LocksWhere, FindsField, Draws};
 ghost use Rattle.st_rule.specs.Turns.{flagged_in, looked, flagged_out, took_gate, saw, gave_gate, number_of_flag};
+ghost use Rattle.st_rule.specs.Turns.{looked_last, board_loaded, unlocked, word_written};
 
 use crate::views::View;
 use atomic_table::Play;
+use std::marker::{Brand, PhantomData};
 
 /// Flag in.
 pub struct FlagIn;
@@ -45,4 +51,64 @@ pub struct GiveGate;
 
 impl Play<(), View> for GiveGate {
     ghost then = { λ step before word after. Becomes (λ _ v. gave_gate v) before word after };
+}
+
+/// Last look.
+pub struct LastLook;
+
+impl Play<(), View> for LastLook {
+    ghost then = { λ step before word after. Learns looked_last before word after };
+}
+
+/// Board load. Which word it is, its number tells.
+pub struct BoardLoad;
+
+impl Play<(), View> for BoardLoad {
+    ghost then = { λ step before word after. Becomes (board_loaded step.word) before word after };
+}
+
+/// Lock object. Which object it is, the word's number tells, and the stamp stands in the word that is expected.
+pub struct Lock;
+
+impl Play<(), View> for Lock {
+    ghost then = { λ step before word after. LocksWhere step.word (high_half step.first) before word after };
+}
+
+/// Unlock.
+pub struct Unlock;
+
+impl Play<(), View> for Unlock {
+    ghost then = { λ step before word after. Becomes (λ _ v. unlocked v) before word after };
+}
+
+/// Field load. Which field of the held object it is, the word's number tells.
+pub struct FieldLoad;
+
+impl Play<(), View> for FieldLoad {
+    ghost then = { λ step before word after. FindsField step.word before word after };
+}
+
+/// Field store, and class store.
+pub struct WordStore;
+
+impl Play<(), View> for WordStore {
+    ghost then = { λ step before word after. Becomes (λ _ v. word_written v) before word after };
+}
+
+/// Which event is drawn. The clock's word does not tell it, so the call that draws picks it.
+pub trait Drawn {
+    ghost event: { Event };
+}
+
+impl Drawn for Brand {
+    ghost event = { Retire 0 0 };
+}
+
+/// Draw.
+pub struct Draw<D> {
+    of: PhantomData<D>,
+}
+
+impl<D: Drawn> Play<(), View> for Draw<D> {
+    ghost then = { λ step before word after. Draws D.event before word after };
 }

@@ -1,7 +1,8 @@
 //! A mutator's seat.
-ghost use Rattle.std.specs.Prelude.{◌≡◌, ◌+◌, ◌≤◌, []};
+ghost use Rattle.std.specs.Prelude.{◌≡◌, ◌+◌, ◌≤◌, [], vec_capacity};
 ghost use Rattle.st_rule.specs.declared.views.View.TheVariants.{Mut};
-ghost use Rattle.st_rule.specs.SeatValue.{KeepsSeat, charge_spent, objects_made, whole_charge, whole_region};
+ghost use Rattle.st_rule.specs.SeatValue.{IsFairView, KeepsSeat};
+ghost use Rattle.st_rule.specs.Entries.{charge_spent, objects_made, whole_charge, whole_region};
 ghost use Rattle.st_rule.specs.Views.{mutator_of};
 
 use crate::views::{Entry, View};
@@ -14,13 +15,14 @@ use std::marker::{Model, PhantomData};
 pub struct MutSeat<J: Judge> {
     pub(crate) seat: Seat<(), View>,
     number: u8,
-    spare: u32,
-    room: u32,
-    entries: Vec<Entry>,
+    pub(crate) spare: u32,
+    pub(crate) room: u32,
+    pub(crate) entries: Vec<Entry>,
     of: PhantomData<J>,
 }
 
 impl<J: Judge> Model for MutSeat<J> {
+    ghost use Rattle.std.specs.Prelude.{vec_capacity};
     ghost use Rattle.st_rule.specs.SeatValue.{SeatValue, KeepsSeat};
     ghost use Rattle.st_rule.specs.Views.{mutator_of};
 
@@ -28,7 +30,7 @@ impl<J: Judge> Model for MutSeat<J> {
 
     ghost view = { λ s. record { table = s.seat.table_id; id = s.seat.id; view = mutator_of s.seat.me.0 } };
 
-    ghost invariant = { λ s. KeepsSeat s.seat.me s.number s.spare s.room s.entries.items };
+    ghost invariant = { λ s. KeepsSeat s.seat.me s.number s.spare s.room s.entries.items (vec_capacity s.entries) };
 }
 
 impl<J: Judge> MutSeat<J> {
@@ -54,6 +56,13 @@ impl<J: Judge> MutSeat<J> {
         self.room
     }
 
+    /// What the seat has seen is legal, with its own events, and what it holds is within the table. Nothing is computed.
+    pub(crate) fn is_fair(&self)
+        ensures { IsFairView self.now.view }
+    {
+        let _ = &self.seat;
+    }
+
     /// A seat with no events yet, with these many spare and this much room.
     pub(crate) fn of(
         seat: Seat<(), View>,
@@ -62,7 +71,7 @@ impl<J: Judge> MutSeat<J> {
         room: u32,
         entries: Vec<Entry>,
     ) -> MutSeat<J>
-        requires { KeepsSeat seat.me number spare room entries.items }
+        requires { KeepsSeat seat.me number spare room entries.items (vec_capacity entries) }
         ensures { result ≡ record { table = seat.table_id; id = seat.id; view = mutator_of seat.me.0 } }
     {
         MutSeat {
@@ -80,6 +89,7 @@ impl<J: Judge> MutSeat<J> {
         ensures table { (result.0.table_id ≡ self.table) × (result.0.id ≡ self.id) }
         ensures view { result.0.me ≡ (Mut self.view, []) }
         ensures entries { result.1 ≡ self.view.journal.entries }
+        ensures fair { IsFairView self.view }
     {
         let MutSeat { seat, entries, .. } = self;
         (seat, SeatLog { entries })

@@ -3,7 +3,7 @@
 ghost use Rattle.std.specs.Prelude.{◌≡◌, ◌≤◌, ◌⊎◌, ◌↔◌, IsTrue, Some};
 ghost use Rattle.st_rule.specs.declared.views.Phase.TheVariants.{Outside, Entering, Inside, Closing, Alone};
 ghost use Rattle.st_rule.specs.Plays.{Finds, FindsAndLearns};
-ghost use Rattle.st_rule.specs.Seats.{IsSeatOf, IsSameSeat, HasSeenLegal};
+ghost use Rattle.st_rule.specs.Seats.{IsSeatOf, IsSameSeat, IsFair, HoldsNothing};
 ghost use Rattle.st_rule.specs.Turns.{flagged_in, looked, flagged_out, took_gate, saw, gave_gate};
 
 use crate::seats::MutSeat;
@@ -16,7 +16,7 @@ impl<J: Judge> Shared<J> {
         requires table { IsSeatOf J.meant self.now seat.old }
         requires phase { seat.old.view.gate.phase ≡ Outside }
         ensures seat { IsSameSeat seat.old seat.new }
-        ensures legal { HasSeenLegal seat.new }
+        ensures fair { IsFair seat.new }
         ensures view { seat.new.view ≡ flagged_in seat.old.view }
     {
         self.store_flag_in(seat, 1);
@@ -27,7 +27,7 @@ impl<J: Judge> Shared<J> {
         requires table { IsSeatOf J.meant self.now seat.old }
         requires phase { seat.old.view.gate.phase ≡ Entering }
         ensures seat { IsSameSeat seat.old seat.new }
-        ensures legal { HasSeenLegal seat.new }
+        ensures fair { IsFair seat.new }
         ensures view { Finds looked seat.old.view seat.new.view }
         ensures answer { IsTrue result ↔ (seat.new.view.tally.found ≡ Some 0) }
     {
@@ -38,8 +38,9 @@ impl<J: Judge> Shared<J> {
     pub fn flag_out(&self, seat: &mut MutSeat<J>)
         requires table { IsSeatOf J.meant self.now seat.old }
         requires phase { (seat.old.view.gate.phase ≡ Entering) ⊎ (seat.old.view.gate.phase ≡ Inside) }
+        requires hand { HoldsNothing seat.old }
         ensures seat { IsSameSeat seat.old seat.new }
-        ensures legal { HasSeenLegal seat.new }
+        ensures fair { IsFair seat.new }
         ensures view { seat.new.view ≡ flagged_out seat.old.view }
     {
         self.store_flag_out(seat, 0);
@@ -51,7 +52,7 @@ impl<J: Judge> Shared<J> {
         requires table { IsSeatOf J.meant self.now seat.old }
         requires phase { seat.old.view.gate.phase ≡ Outside }
         ensures seat { IsSameSeat seat.old seat.new }
-        ensures legal { HasSeenLegal seat.new }
+        ensures fair { IsFair seat.new }
         ensures view { FindsAndLearns took_gate seat.old.view seat.new.view }
         ensures answer { IsTrue result ↔ (seat.new.view.tally.found ≡ Some 0) }
     {
@@ -66,7 +67,7 @@ impl<J: Judge> Shared<J> {
         requires phase { seat.old.view.gate.phase ≡ Closing }
         requires within { k ≤ seat.old.view.terms.sizes.mutators }
         ensures seat { IsSameSeat seat.old seat.new }
-        ensures legal { HasSeenLegal seat.new }
+        ensures fair { IsFair seat.new }
         ensures view { FindsAndLearns (saw k) seat.old.view seat.new.view }
         ensures answer { IsTrue result ↔ (seat.new.view.tally.found ≡ Some 0) }
     {
@@ -78,7 +79,7 @@ impl<J: Judge> Shared<J> {
         requires table { IsSeatOf J.meant self.now seat.old }
         requires phase { seat.old.view.gate.phase ≡ Alone }
         ensures seat { IsSameSeat seat.old seat.new }
-        ensures legal { HasSeenLegal seat.new }
+        ensures fair { IsFair seat.new }
         ensures view { seat.new.view ≡ gave_gate seat.old.view }
     {
         self.store_closing(seat, 0);

@@ -61,6 +61,43 @@ pub struct JournalView {
     pub entries: LinkedList<Entry>,
 }
 
+/// A word that a seat loaded, by its number in the table.
+pub struct LoadedWord {
+    pub word: u32,
+    pub value: u64,
+}
+
+/// What a mutator knows of the words that only a closer changes.
+pub struct BoardView {
+    /// What it has loaded since it went inside, or became alone. The last one first.
+    pub loaded: LinkedList<LoadedWord>,
+}
+
+/// A field of the held object that was loaded.
+pub struct LoadedField {
+    pub field: u8,
+    pub value: u64,
+}
+
+/// A change or a New that is drawn, while not all of its words are written.
+pub struct Flight {
+    pub event: Event,
+    /// The word that a change takes the place of; 0 for a New.
+    pub old: u64,
+    /// Whether its field, or its class word, is written. Then only the header is left.
+    pub written: bool,
+}
+
+/// What a mutator knows of the object that it holds.
+pub struct Held {
+    pub object: u32,
+    /// The stamp that its header had when it was locked.
+    pub stamp: u32,
+    /// Its fields that were loaded since then and not written since. The last one first.
+    pub loaded: LinkedList<LoadedField>,
+    pub flight: Option<Flight>,
+}
+
 /// What a view keeps of a seat that it joined.
 pub struct JoinedView {
     pub number: u8,
@@ -79,7 +116,10 @@ pub struct MutView {
     pub terms: Terms,
     pub tally: Tally,
     pub gate: GateView,
+    pub board: BoardView,
     pub journal: JournalView,
+    /// The object that it holds, if any.
+    pub held: Option<Held>,
     pub hands: HandsView,
 }
 

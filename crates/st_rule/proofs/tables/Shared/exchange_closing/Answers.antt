@@ -22,8 +22,8 @@ compare_exchange-requires g c =
 pub invariant_of-seat : goal.invariant_of-seat
 invariant_of-seat g c = took_kept c.seat.invariant c.compare_exchange.result c.compare_exchange.ensures.2
 
-pub returns-clause-legal : goal.returns-clause-legal
-returns-clause-legal g c = (took_kept c.seat.invariant c.compare_exchange.result c.compare_exchange.ensures.2).legal
+pub returns-clause-fair : goal.returns-clause-fair
+returns-clause-fair g c = (took_kept c.seat.invariant c.compare_exchange.result c.compare_exchange.ensures.2).fair
 
 pub returns-clause-found : goal.returns-clause-found
 returns-clause-found g c =

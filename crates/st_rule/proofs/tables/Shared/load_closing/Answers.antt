@@ -21,12 +21,12 @@ load-requires g c =
 pub invariant_of-seat : goal.invariant_of-seat
 invariant_of-seat g c =
     let word = c.load.result in
-    kept_at c.seat.invariant looked word c.load.ensures.2 (looked_steady (word == 0) word (mutator_of c.seat.inside.seat.me.0)) refl
+    kept_at c.seat.invariant looked word c.load.ensures.2 (looked_steady (word == 0) word (mutator_of c.seat.inside.seat.me.0)) refl refl
 
-pub returns-clause-legal : goal.returns-clause-legal
-returns-clause-legal g c =
+pub returns-clause-fair : goal.returns-clause-fair
+returns-clause-fair g c =
     let word = c.load.result in
-    (kept_at c.seat.invariant looked word c.load.ensures.2 (looked_steady (word == 0) word (mutator_of c.seat.inside.seat.me.0)) refl).legal
+    (kept_at c.seat.invariant looked word c.load.ensures.2 (looked_steady (word == 0) word (mutator_of c.seat.inside.seat.me.0)) refl refl).fair
 
 pub returns-clause-found : goal.returns-clause-found
 returns-clause-found g c =

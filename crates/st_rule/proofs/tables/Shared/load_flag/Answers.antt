@@ -35,8 +35,8 @@ returns-clause-view g c =
     subst (λ n. FindsAndLearns (saw n) c.args.seat.now.view (mutator_of c.load.new.seat.me.0)) (number_of_place _ c.args.k word c.flag_place-word.ensures.place)
     (learned c.args.seat.now.view (ap (λ s. s.view) c.seat.view_is))
 
-pub returns-clause-legal : goal.returns-clause-legal
-returns-clause-legal g c = (saw_kept c.seat.invariant (number_of_flag c.flag_place-word.result) c.load.result c.load.ensures.2).legal
+pub returns-clause-fair : goal.returns-clause-fair
+returns-clause-fair g c = (saw_kept c.seat.invariant (number_of_flag c.flag_place-word.result) c.load.result c.load.ensures.2).fair
 
 pub returns-clause-found : goal.returns-clause-found
 returns-clause-found g c =

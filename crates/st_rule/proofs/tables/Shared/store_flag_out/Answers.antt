@@ -19,5 +19,6 @@ store-requires g c =
       ap (λ s. s.table) c.seat.view_is ∙ c.requires.table.table,
       c.flag_place-word.ensures.within,
       flag_out_keeps told slots c.seat.inside.seat.id me (mutator_of me.0) (ap (λ m. m.0) c.seat.invariant.mutator)
-          c.flag_place-word.result c.args.value place c.requires.down (⊎_elim (λ entering. phase ∙ ap is_closer entering) (λ inside. phase ∙ ap is_closer inside) c.requires.phase),
+          c.flag_place-word.result c.args.value place c.requires.down (⊎_elim (λ entering. phase ∙ ap is_closer entering) (λ inside. phase ∙ ap is_closer inside) c.requires.phase)
+          (ap (λ v. v.held) same ∙ c.requires.hand),
     )
