@@ -51,3 +51,38 @@ fails_next view p f e (Err x) h r = subst (λ y. Fails y (p >>= f)) (sym r) (lat
     later (WrongCount at) h = ap (λ q. q >>= f) h
     later (NotPure at) h = ap (λ q. q >>= f) h
     later (NotHere at) h = ap (λ q. q >>= f) h
+
+-- a fault that is told of one is told of the other
+pub fails_too : {A B : Type 0} (p : Checked A) (q : Checked B) (e : TypeError) → Fails e p → (p ≡ Err e → q ≡ Err e) → Fails e q
+fails_too p q Memory h k = tt
+fails_too p q (UnknownName at) h k = k h
+fails_too p q (Twice at) h k = k h
+fails_too p q (Mismatch at wanted found) h k = k h
+fails_too p q (WrongCount at) h k = k h
+fails_too p q (NotPure at) h k = k h
+fails_too p q (NotHere at) h k = k h
+
+-- a fault that is handed on is told
+pub gives_fault : {A B : Type 0} (view : A → B) (result : Checked A) (expected : Checked B) (e : TypeError) → IsErrAnd result (λ x. x ≡ e) → Fails e expected
+    → Gives view result expected
+gives_fault view (Ok a) expected e r h = elim r [ ]
+gives_fault view (Err x) expected e r h = subst (λ y. Fails y expected) (sym r) h
+
+-- a value means that there is no fault, and it is the one that is asked for
+pub no_faults : {A : Type 0} (faults : List TypeError) (a b : A) → verdict faults a ≡ Ok b → faults ≡ []
+no_faults [] a b h = refl
+no_faults (x ∷ faults) a b h = cc
+
+pub value_is : {A : Type 0} (faults : List TypeError) (a b : A) → verdict faults a ≡ Ok b → a ≡ b
+value_is [] a b h = cc
+value_is (x ∷ faults) a b h = cc
+
+-- none, and then others
+pub none_before : {A : Type 0} (xs ys : List TypeError) (a b : A) (c : Checked A) → Ok (tt {0}) ≡ verdict xs (tt {0}) → verdict ys a ≡ c → verdict (xs ++ ys) a ≡ c
+none_before [] ys a b c h k = k
+none_before (x ∷ xs) ys a b c h k = cc
+
+-- the first of some is the first of more
+pub first_of_more : {A B : Type 0} (xs ys : List TypeError) (a : A) (b : B) (e : TypeError) → verdict xs a ≡ Err e → verdict (xs ++ ys) b ≡ Err e
+first_of_more [] ys a b e h = cc
+first_of_more (x ∷ xs) ys a b e h = let same : x ≡ e = cc in ap Err same

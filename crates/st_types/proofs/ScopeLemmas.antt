@@ -1,5 +1,6 @@
 -- What is found among the locals of the code, and among their views.
-use Rattle.std.proofs.Common.{◌≡◌, ℕ, ◌+◌, Bool, true, false, cond, ◌&&◌, List, [], ◌∷◌, map, length, get_or, ◌<◌, position, slice_get, Option, Some, None, refl, ap, sym, ◌∙◌, arith}
+use Rattle.std.proofs.Common.{◌≡◌, ℕ, ◌+◌, Bool, true, false, cond, ◌&&◌, List, [], ◌∷◌, map, length, get_or, ◌<◌, position, slice_get, Option, Some}
+use Rattle.std.proofs.Common.{None, refl, ap, sym, ◌∙◌, arith}
 use Rattle.std.specs.Prelude.{option_map, nat_lt, not, ◌||◌}
 use Rattle.std.specs.List.{prefix_len, position_or_len, list_any}
 use Rattle.std.specs.Option.{option_and_then}
@@ -10,6 +11,7 @@ use Rattle.st_types.specs.declared.names.Named.{Named}
 use Rattle.st_types.specs.declared.scopes.Local as code_local
 use Rattle.st_types.specs.Names.{Local, find_local}
 use Rattle.st_types.specs.Scopes.{local_view}
+use Rattle.st_types.specs.Statements.{known_kind}
 
 prefix_len_of_map : {A B : Type 0} (p : B → Bool) (f : A → B) (xs : List A) → prefix_len p (map f xs) ≡ prefix_len (λ x. p (f x)) xs
 prefix_len_of_map p f [] = refl
@@ -52,3 +54,8 @@ not_found locals name p = rw (local_of_views locals name, ← p) refl
 pub list_any_of_map : {A B : Type 0} (p : B → Bool) (f : A → B) (xs : List A) → list_any p (map f xs) ≡ list_any (λ x. p (f x)) xs
 list_any_of_map p f [] = refl
 list_any_of_map p f (x ∷ xs) = ap (λ b. p (f x) || b) (list_any_of_map p f xs)
+
+-- their kinds
+pub kinds_of_views : (locals : List code_local.Local) → map (λ (l : Local). known_kind l.kind) (map local_view locals) ≡ map (λ (l : code_local.Local). known_kind l.kind) locals
+kinds_of_views [] = refl
+kinds_of_views (l ∷ locals) = ap (λ ks. known_kind l.kind ∷ ks) (kinds_of_views locals)

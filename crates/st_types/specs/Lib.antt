@@ -4,9 +4,14 @@ pub mod Kinds
 pub mod Limits
 pub mod Names
 pub mod Nodes
+pub mod Outcomes
+pub mod Places
+pub mod Routines
 pub mod Rules
 pub mod Scopes
 pub mod Statements
 pub mod Stepwise
+pub mod Tallies
+pub mod TypedPrograms
 pub mod Typing
 pub mod Walks

@@ -1,8 +1,11 @@
 -- What a name stands for. A name that is declared twice counts as its first declaration.
-use Rattle.std.specs.Prelude.{ℕ, ◌+◌, ◌-◌, ◌==◌, Bool, true, ◌&&◌, List, [], ◌∷◌, map, position, slice_get, Option, Some, None, option_map, is_some, if◌then◌else◌}
+use Rattle.std.specs.Prelude.{ℕ, ◌+◌, ◌-◌, ◌≤◌, ◌==◌, Bool, true, ◌&&◌, List, [], ◌∷◌, length, map, position, slice_get, All, Option, Some, None}
+use Rattle.std.specs.Prelude.{option_map, is_some, if◌then◌else◌}
 use Rattle.std.specs.Option.{option_and_then}
 use Rattle.std.specs.Str.{bytes_eq}
 use Rattle.st_events.specs.declared.shapes.Kind.TheVariants as kinds
+use Rattle.st_events.specs.declared.shapes.TheConstants.{MOST_FIELDS}
+use Rattle.st_program.specs.declared.limits.TheConstants.{MOST_PREDS, MOST_PROCS}
 use Rattle.st_ast.specs.declared.declarations.Program.{Program}
 use Rattle.st_ast.specs.declared.declarations.Class.{Class}
 use Rattle.st_ast.specs.declared.declarations.Field.{Field}
@@ -13,6 +16,7 @@ use Rattle.st_ast.specs.declared.declarations.TypeName.{TypeName}
 use Rattle.st_ast.specs.declared.declarations.TypeName.TheVariants as types
 use Rattle.st_types.specs.declared.kinds.Found.{Found}
 use Rattle.st_types.specs.declared.kinds.Found.TheVariants.{Unknown, Known}
+use Rattle.st_types.specs.declared.limits.TheConstants.{MOST_SOURCE_CLASSES}
 use Rattle.st_types.specs.declared.names.Named.{Named}
 
 -- the number of the class of this name, from 1
@@ -76,3 +80,11 @@ named_kind (Some named) = named.kind
 abbrev pub named_number : Option Named → ℕ
 named_number None = 0
 named_number (Some named) = named.number
+
+-- few classes, each with few fields, few shared variables, predicates and procedures
+pub record HasFewNames (p : Program) : Type 0 where
+  pub classes : length p.classes ≤ MOST_SOURCE_CLASSES
+  pub fields : All (λ class. length class.fields ≤ MOST_FIELDS) p.classes
+  pub shared : length p.shared ≤ MOST_FIELDS
+  pub preds : length p.preds ≤ MOST_PREDS
+  pub procs : length p.procs ≤ MOST_PROCS

@@ -3,6 +3,7 @@ use Rattle.std.specs.Prelude.{ℕ, ◌+◌, true, false, ◌||◌, List, [], ◌
 use Rattle.std.specs.List.{list_any}
 use Rattle.std.specs.Str.{bytes_eq}
 use Rattle.st_events.specs.Shape.{ShapeLists}
+use Rattle.st_events.specs.declared.shapes.Kind.{Kind}
 use Rattle.st_ast.specs.declared.declarations.Program as trees
 use Rattle.st_ast.specs.declared.declarations.Class.{Class}
 use Rattle.st_ast.specs.declared.declarations.Field.{Field}
@@ -50,14 +51,19 @@ param_locals p params = map (λ param. record { name = param.name; kind = kind_o
 abbrev pub pred_scope : trees.Program → Pred → ScopeView
 pred_scope p pred = record { program = p; locals = param_locals p pred.params; may_call = true }
 
--- a predicate: its name is new among predicates and procedures, its parameters, the type of its value, its body, which has this type
-abbrev pub pred_faults : trees.Program → List Pred → Pred → List TypeError
-pred_faults p earlier pred =
+-- the head of a predicate: its name is new among predicates and procedures, its parameters, the type of its value
+abbrev pub pred_head_faults : trees.Program → List Pred → Pred → List TypeError
+pred_head_faults p earlier pred =
+    asks_new (list_any (λ q. bytes_eq q.name pred.name) earlier) pred.site ++ (params_faults p pred.params ++ asks_type p pred.result)
+
+-- its body, which has the kind of its value
+abbrev pub pred_body_faults : trees.Program → Pred → List TypeError
+pred_body_faults p pred =
     let body = judged (pred_scope p pred) pred.body in
-    in_order (
-    asks_new (list_any (λ q. bytes_eq q.name pred.name) earlier) pred.site ∷ params_faults p pred.params ∷ asks_type p pred.result
-    ∷ body.faults ∷ asks (kind_of p pred.result) body.seen.site body.seen.kind ∷ []
-    )
+    body.faults ++ asks (kind_of p pred.result) body.seen.site body.seen.kind
+
+abbrev pub pred_faults : trees.Program → List Pred → Pred → List TypeError
+pred_faults p earlier pred = pred_head_faults p earlier pred ++ pred_body_faults p pred
 
 -- the walk over a body, with the check statements before it
 abbrev pub walk_body : trees.Program → List Param → List Stmt → List Launched → WalkedBlock
@@ -75,24 +81,30 @@ routine_at p params body checks =
     let walked = walk_body p params body checks in
     record { params = length params; locals = map (λ l. known_kind l.kind) walked.reached.locals; block = walked.block }
 
--- a procedure: its name is new among predicates and procedures, its parameters, its body
-abbrev pub walk_proc : trees.Program → List Proc → List Launched → Proc → WalkedRoutine
-walk_proc p earlier checks procedure = record {
-  faults = in_order (
-      asks_new (is_some (pred_number p procedure.name) || list_any (λ q. bytes_eq q.name procedure.name) earlier) procedure.site
-      ∷ params_faults p procedure.params ∷ (walk_body p procedure.params procedure.body checks).faults ∷ []
-      );
-  routine = routine_at p procedure.params procedure.body checks;
-  checks = (walk_body p procedure.params procedure.body checks).reached.checks;
+-- the body of a procedure or a thread
+abbrev pub walked_body : trees.Program → List Param → List Stmt → List Launched → WalkedRoutine
+walked_body p params body checks = record {
+  faults = (walk_body p params body checks).faults;
+  routine = routine_at p params body checks;
+  checks = (walk_body p params body checks).reached.checks;
 }
+
+-- what was walked, behind the faults of its head
+abbrev pub behind : List TypeError → WalkedRoutine → WalkedRoutine
+behind faults w = record w { faults = faults ++ w.faults }
+
+-- the head of a procedure: its name is new among predicates and procedures, its parameters
+abbrev pub proc_head_faults : trees.Program → List Proc → Proc → List TypeError
+proc_head_faults p earlier procedure =
+    asks_new (is_some (pred_number p procedure.name) || list_any (λ q. bytes_eq q.name procedure.name) earlier) procedure.site ++ params_faults p procedure.params
+
+-- a procedure: its head, its body
+abbrev pub walk_proc : trees.Program → List Proc → List Launched → Proc → WalkedRoutine
+walk_proc p earlier checks procedure = behind (proc_head_faults p earlier procedure) (walked_body p procedure.params procedure.body checks)
 
 -- a thread: its name is new among threads, its body
 abbrev pub walk_thread : trees.Program → List Thread → List Launched → Thread → WalkedRoutine
-walk_thread p earlier checks thread = record {
-  faults = asks_new (list_any (λ q. bytes_eq q.name thread.name) earlier) thread.site ++ (walk_body p [] thread.body checks).faults;
-  routine = routine_at p [] thread.body checks;
-  checks = (walk_body p [] thread.body checks).reached.checks;
-}
+walk_thread p earlier checks thread = behind (asks_new (list_any (λ q. bytes_eq q.name thread.name) earlier) thread.site) (walked_body p [] thread.body checks)
 
 -- routines, one after another
 pub record WalkedRoutines : Type 0 where
@@ -138,9 +150,14 @@ resolution p = record {
   checks = map (λ l. l.check) (walked_threads p).checks;
 }
 
+-- the kinds of fields, or of shared variables
+abbrev pub field_kinds : trees.Program → List Field → List Kind
+field_kinds p fields = map (λ f. known_kind (kind_of p f.kind)) fields
+
+-- those of the shared variables, and then of each class
+abbrev pub class_kinds : trees.Program → List (List Kind)
+class_kinds p = field_kinds p p.shared ∷ map (λ class. field_kinds p class.fields) p.classes
+
 -- the shape of a tree that keeps the rules
 unfoldable pub shape_of : trees.Program → ShapeLists
-shape_of p = record {
-  classes = map (λ f. known_kind (kind_of p f.kind)) p.shared ∷ map (λ class. map (λ f. known_kind (kind_of p f.kind)) class.fields) p.classes;
-  checks = map (λ l. l.kinds) (walked_threads p).checks;
-}
+shape_of p = record { classes = class_kinds p; checks = map (λ l. l.kinds) (walked_threads p).checks }

@@ -4,7 +4,7 @@ use Rattle.st_ast.specs.declared.declarations.Program.{Program}
 use Rattle.st_program.specs.declared.limits.TheConstants.{MOST_LOCALS}
 use Rattle.st_types.specs.declared.scopes.Local as code_local
 use Rattle.st_types.specs.declared.scopes.Scope as code_scope
-use Rattle.st_types.specs.Limits.{HasFewNames}
+use Rattle.st_types.specs.Names.{HasFewNames}
 use Rattle.st_types.specs.Names.{Local}
 
 -- the program around an expression, the locals, and whether predicates may be called

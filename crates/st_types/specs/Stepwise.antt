@@ -9,7 +9,9 @@ use Rattle.st_ast.specs.declared.statements.Stmt.TheFolds.{fold-Stmt}
 use Rattle.st_ast.specs.declared.statements.Value.{Value}
 use Rattle.st_ast.specs.declared.statements.Value.TheVariants as values
 use Rattle.st_ast.specs.declared.expressions.Expr.{Expr}
+use Rattle.st_events.specs.declared.shapes.Kind.{Kind}
 use Rattle.st_program.specs.Terms.{from_term, from_new, from_cas, Command, a_set, a_put, an_if, a_while, a_proc_call, a_launch, Block, no_commands, command_then}
+use Rattle.st_program.specs.Terms.{CheckStatement}
 use Rattle.st_program.specs.Views.{terms_of}
 use Rattle.st_types.specs.Checked.{Checked, verdict, ◌>>=◌}
 use Rattle.st_types.specs.Judged.{typed, each_of}
@@ -54,14 +56,14 @@ other_steps (Some steps) = steps
 abbrev pub typed_condition : ScopeView → Expr → Checked Seen
 typed_condition s e = typed s e >>= (λ t. verdict (asks a_bool t.site t.kind) t)
 
+-- one check statement more
+abbrev pub with_check : Reached → CheckStatement → List Kind → Reached
+with_check r check kinds = record r { checks = r.checks ++ record { check = check; kinds = kinds } ∷ [] }
+
 -- a check statement that is seen
 abbrev pub launched : Reached → Expr → Seen → Site → Reached
-launched r e seen site = record r {
-  checks = r.checks ++ record {
-    check = record { args = args_of_check r.locals e; body = seen.term; at = site };
-    kinds = map (λ l. known_kind l.kind) (locals_at r.locals (args_of_check r.locals e));
-  } ∷ [];
-}
+launched r e seen site = with_check r (record { args = args_of_check r.locals e; body = seen.term; at = site })
+    (map (λ l. known_kind l.kind) (locals_at r.locals (args_of_check r.locals e)))
 
 -- the value of a `var`, whose name is new and whose type is one
 abbrev pub var_given : ScopeView → List ℕ → TypeName → Value → Site → Checked Given
@@ -89,9 +91,18 @@ called s name args site = each_of (map (typed s) args) >>= (λ seen. proc_comman
 abbrev pub stays : Reached → Checked Command → Checked Stepped
 stays r command = command >>= (λ c. Ok (record { command = c; reached = r }))
 
-abbrev pub step_node : Program → Stmt-F (Reached → Checked Stepped) → Reached → Checked Stepped
-step_node p (Stmt-F.Var name name_site kind value site) r =
+-- a `var`
+abbrev pub step_var : Program → Reached → List ℕ → TypeName → Value → Site → Checked Stepped
+step_var p r name kind value site =
     var_given (plain_scope p r.locals) name kind value site >>= (λ v. Ok (record { command = a_set (length r.locals) v.source; reached = declare r name (kind_of p kind) }))
+
+-- a check statement
+abbrev pub step_check : Program → Reached → Expr → Site → Checked Stepped
+step_check p r body site =
+    typed_condition (check_scope p r.locals body) body >>= (λ t. Ok (record { command = a_launch (length r.checks); reached = launched r body t site }))
+
+abbrev pub step_node : Program → Stmt-F (Reached → Checked Stepped) → Reached → Checked Stepped
+step_node p (Stmt-F.Var name name_site kind value site) r = step_var p r name kind value site
 step_node p (Stmt-F.Assign name value site) r = stays r (assigned (plain_scope p r.locals) name value site)
 step_node p (Stmt-F.Put place value site) r = stays r (stored (plain_scope p r.locals) place value)
 step_node p (Stmt-F.If cond first other site) r =
@@ -101,8 +112,7 @@ step_node p (Stmt-F.While cond body site) r =
     typed_condition (plain_scope p r.locals) cond >>= (λ t. step_block body r >>= (λ turn.
     Ok (record { command = a_while t.term turn.block; reached = turn.reached })))
 step_node p (Stmt-F.Call name args site) r = stays r (called (plain_scope p r.locals) name args site)
-step_node p (Stmt-F.Check body site) r =
-    typed_condition (check_scope p r.locals body) body >>= (λ t. Ok (record { command = a_launch (length r.checks); reached = launched r body t site }))
+step_node p (Stmt-F.Check body site) r = step_check p r body site
 
 -- a statement, up to its first fault
 abbrev pub step : Program → Stmt → Reached → Checked Stepped

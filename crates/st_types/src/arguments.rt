@@ -2,7 +2,8 @@
 ghost use Rattle.std.specs.Prelude.{◌≡◌, ◌≤◌, ◌++◌, length, map, slice_get, OnOk, IfOk};
 ghost use Rattle.st_types.specs.Names.{find_local};
 ghost use Rattle.st_types.specs.Scopes.{local_view};
-ghost use Rattle.st_types.specs.Statements.{mentions, with_number, numbers_of, args_of_check, if_any};
+ghost use Rattle.st_types.specs.Statements.{mentions, with_number, numbers_of, args_of_check, locals_at, if_any};
+ghost use Rattle.st_types.specs.Tallies.{distinct_names};
 ghost use Rattle.std.specs.List.{flat_map};
 ghost use Rattle.st_program.specs.declared.limits.TheConstants.{MOST_LOCALS};
 
@@ -67,11 +68,7 @@ fn add_mentioned(numbers: &mut Vec<u8>, locals: &[Local], e: &Expr) -> Result<()
 }
 
 /// The arguments of a check, by their numbers in the body.
-pub(crate) fn args_of_check(
-    alloc: Global,
-    locals: &[Local],
-    e: &Expr,
-) -> Result<Vec<u8>, AllocError>
+fn args_of_check(alloc: Global, locals: &[Local], e: &Expr) -> Result<Vec<u8>, AllocError>
     requires { length locals.now ≤ MOST_LOCALS }
     ensures { IfOk result (λ numbers. numbers.items ≡ args_of_check (map local_view locals.now) e.now) }
 {
@@ -96,7 +93,7 @@ fn add_found<'a>(
 }
 
 /// The locals of these numbers.
-pub(crate) fn locals_at<'a>(
+fn locals_at<'a>(
     alloc: Global,
     locals: &[Local<'a>],
     numbers: &[u8],
@@ -108,4 +105,27 @@ pub(crate) fn locals_at<'a>(
         add_found(&mut found, locals, *number)?;
     }
     Ok(found)
+}
+
+/// What a check takes: its arguments by their numbers in the body, and the locals that they are.
+#[derive(Debug, Drop)]
+pub(crate) struct Taken<'a> {
+    pub(crate) args: Vec<u8>,
+    pub(crate) locals: Vec<Local<'a>>,
+}
+
+/// What a check takes: the distinct locals that its expression names, in order of first mention.
+pub(crate) fn taken_by<'a>(
+    alloc: Global,
+    locals: &[Local<'a>],
+    e: &Expr,
+) -> Result<Taken<'a>, AllocError>
+    requires { length locals.now ≤ MOST_LOCALS }
+    ensures args { IfOk result (λ t. t.args.items ≡ args_of_check (map local_view locals.now) e.now) }
+    ensures locals { IfOk result (λ t. map local_view t.locals.items ≡ locals_at (map local_view locals.now) (args_of_check (map local_view locals.now) e.now)) }
+    ensures few { IfOk result (λ t. length t.locals.items ≤ distinct_names e.now) }
+{
+    let args = args_of_check(alloc, locals, e)?;
+    let locals = locals_at(alloc, locals, &args)?;
+    Ok(Taken { args, locals })
 }

@@ -7,7 +7,7 @@ ghost use Rattle.st_types.specs.Statements.{asks_class, asks_type, asks_new, is_
 ghost use Rattle.st_types.specs.Stepwise.{var_given, assigned, stored, called, proc_command};
 ghost use Rattle.st_types.specs.Names.{proc_number};
 ghost use Rattle.st_types.specs.Nodes.{number_or_0};
-ghost use Rattle.st_types.specs.Limits.{HasFewNames};
+ghost use Rattle.st_types.specs.Names.{HasFewNames};
 ghost use Rattle.st_types.specs.Typing.{given_of, seen_of};
 ghost use Rattle.st_types.specs.Scopes.{local_view};
 ghost use Rattle.std.specs.List.{list_any};

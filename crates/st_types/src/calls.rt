@@ -3,7 +3,7 @@ ghost use Rattle.std.specs.Prelude.{◌≡◌, ◌<◌, map, length, true, IfOk,
 ghost use Rattle.st_ast.specs.declared.expressions.Expr.TheOpen.{Expr-F};
 ghost use Rattle.st_types.specs.Checked.{Gives, verdict};
 ghost use Rattle.st_types.specs.Judged.{outcome};
-ghost use Rattle.st_types.specs.Limits.{HasFewNames};
+ghost use Rattle.st_types.specs.Names.{HasFewNames};
 ghost use Rattle.st_types.specs.Names.{pred_number, param_kinds};
 ghost use Rattle.st_types.specs.Nodes.{asks_args, asks_each, no_predicate, refuses_call, find_pred, is_callable};
 ghost use Rattle.st_types.specs.Scopes.{scope_view, IsSmall};

@@ -2,7 +2,7 @@
 ghost use Rattle.std.specs.Prelude.{◌≡◌, ◌≤◌, ◌<◌, length, map, position, IfSome};
 ghost use Rattle.std.specs.Str.{bytes_eq};
 ghost use Rattle.st_types.specs.Names.{class_number, class_kind, kind_of, fields_of, find_field, pred_number, proc_number};
-ghost use Rattle.st_types.specs.Limits.{HasFewNames};
+ghost use Rattle.st_types.specs.Names.{HasFewNames};
 ghost use Rattle.st_events.specs.declared.shapes.TheConstants.{MOST_FIELDS};
 
 use crate::kinds::Found;

@@ -1,10 +1,11 @@
 //! A program whose types were checked.
 ghost use Rattle.std.specs.Prelude.{◌≡◌, ◌<◌, ◌≤◌, length, slice_get, Some, option_map};
-ghost use Rattle.st_types.specs.Limits.{IsWithinCounts};
+ghost use Rattle.st_types.specs.TypedPrograms.{TypedView, IsTyped};
 
 use st_ast::Program;
 use st_events::{MOST_CHECKS, MOST_MUTATORS, Shape, Site};
 use st_program::Resolved;
+use std::marker::Model;
 
 /// How many of each a program has.
 #[derive(Clone, Copy, Debug, PartialEq, Eq)]
@@ -19,13 +20,39 @@ pub struct Counts {
 /// A tree that keeps the rules, the same with numbers in the place of names, and its shape. Only `check_types` makes one.
 #[derive(Debug, Drop)]
 pub struct Typed {
-    pub(crate) program: Program,
-    pub(crate) resolved: Resolved,
-    pub(crate) shape: Shape,
-    ghost few: { IsWithinCounts program resolved },
+    program: Program,
+    resolved: Resolved,
+    shape: Shape,
+}
+
+impl Model for Typed {
+    ghost use Rattle.std.specs.Coded.{codes};
+    ghost use Rattle.st_ast.specs.contracts.declarations.Program as tree;
+    ghost use Rattle.st_program.specs.contracts.programs.Resolved as numbers;
+    ghost use Rattle.st_types.specs.TypedPrograms.{TypedView, IsTyped};
+
+    ghost Value = { TypedView };
+
+    ghost coded = { Prim.hlevel (codes, tree.the_row.coded, numbers.the_row.coded) };
+
+    ghost view = { λ t. record { program = t.program; resolved = t.resolved; shape = t.shape } };
+
+    ghost invariant = { λ t. IsTyped (record { program = t.program; resolved = t.resolved; shape = t.shape }) };
 }
 
 impl Typed {
+    /// A tree that keeps the rules, with its resolution and its shape.
+    pub(crate) fn make(program: Program, resolved: Resolved, shape: Shape) -> Typed
+        requires { IsTyped (record { program = program; resolved = resolved; shape = shape }) }
+        ensures { result ≡ record { program = program; resolved = resolved; shape = shape } }
+    {
+        Typed {
+            program,
+            resolved,
+            shape,
+        }
+    }
+
     /// The shape of the program.
     pub fn shape(&self) -> &Shape
         ensures { result.now ≡ self.now.shape }

@@ -1,17 +1,16 @@
 //! How far a body was walked: its locals so far, and the check statements of the source so far.
-ghost use Rattle.std.specs.Prelude.{◌≡◌, ◌≤◌, ◌++◌, [], ◌∷◌, length, map, OnOk, IfOk, IfErr, Ok};
-ghost use Rattle.st_types.specs.declared.errors.TypeError.TheVariants.{Memory};
-ghost use Rattle.st_types.specs.Scopes.{scope_view};
-ghost use Rattle.st_types.specs.Statements.{plain_scope, declare, known_kind};
-ghost use Rattle.st_types.specs.Walks.{reached_of, HasRoom};
-ghost use Rattle.st_program.specs.declared.limits.TheConstants.{MOST_LOCALS};
+ghost use Rattle.std.specs.Prelude.{◌≡◌, ◌≤◌, length, map, OnOk, IfOk};
+ghost use Rattle.st_program.specs.Views.{check_of};
+ghost use Rattle.st_types.specs.Scopes.{scope_view, local_view};
+ghost use Rattle.st_types.specs.Statements.{plain_scope, declare, known_kind, forgotten, closed};
+ghost use Rattle.st_types.specs.Stepwise.{with_check};
+ghost use Rattle.st_types.specs.Walks.{reached_of};
 
-use crate::errors::TypeError;
 use crate::kinds::Found;
 use crate::scopes::{Local, Scope};
 use st_ast::Program;
 use st_events::Kind;
-use st_program::{Check, MOST_LOCALS};
+use st_program::Check;
 use std::alloc::{AllocError, Global};
 
 /// A check statement with numbers, and the kinds of its arguments.
@@ -54,17 +53,10 @@ impl<'a> Walk<'a> {
         }
     }
 
-    /// Declares a local. A body with more locals than the most that it may have is given up as if memory ran out: no
-    /// tree within the limits has one.
-    pub(crate) fn declare(&mut self, name: &'a [u8], kind: Found) -> Result<(), TypeError>
-        requires { HasRoom self.old }
-        ensures room { HasRoom self.new }
-        ensures memory { IfErr result (λ e. e ≡ Memory) }
-        ensures declared { OnOk result (reached_of self.new ≡ declare (reached_of self.old) name.now kind) }
+    /// Declares a local.
+    pub(crate) fn declare(&mut self, name: &'a [u8], kind: Found) -> Result<(), AllocError>
+        ensures { OnOk result (reached_of self.new ≡ declare (reached_of self.old) name.now kind) }
     {
-        if self.locals.len() >= MOST_LOCALS {
-            return Err(TypeError::Memory);
-        }
         self.locals.push(Local {
             name,
             kind,
@@ -73,23 +65,29 @@ impl<'a> Walk<'a> {
         Ok(())
     }
 
+    /// A check statement more.
+    pub(crate) fn launch(&mut self, check: Check, kinds: Vec<Kind>) -> Result<(), AllocError>
+        ensures { OnOk result (reached_of self.new ≡ with_check (reached_of self.old) (check_of check) kinds.items) }
+    {
+        self.checks.push(Launched { check, kinds })?;
+        Ok(())
+    }
+
     /// At the end of a block: what was declared after so many locals is known no more.
     pub(crate) fn close(&mut self, before: usize)
-        requires { HasRoom self.old }
-        ensures { HasRoom self.new }
+        requires { before ≤ length self.old.locals.items }
+        ensures { reached_of self.new ≡ closed before (reached_of self.old) }
     {
-        close_from(&mut self.locals, before);
+        forget(&mut self.locals[before..]);
     }
 }
 
-/// Locals from this number on are known no more.
-fn close_from(locals: &mut [Local], before: usize)
-    ensures { length locals.new ≡ length locals.old }
+/// The locals are known no more.
+fn forget(locals: &mut [Local])
+    ensures { map local_view locals.new ≡ map forgotten (map local_view locals.old) }
 {
-    for (i, local) in locals.iter_mut().enumerate() {
-        if i >= before {
-            local.is_known = false;
-        }
+    for local in locals.iter_mut() {
+        local.is_known = false;
     }
 }
 
