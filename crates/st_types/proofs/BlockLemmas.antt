@@ -1,11 +1,11 @@
 -- Statements one after another: how far a loop over them has come.
 use Rattle.std.proofs.Common.{◌≡◌, ℕ, ◌+◌, ◌<◌, ◌≤◌, List, [], ◌∷◌, ◌++◌, map, length, drop, get_or}
-use Rattle.std.proofs.Common.{Result, Ok, Err, refl, ap, sym, ◌∙◌, subst, add-one, drop-cons, append_assoc, append-nil, suc, arith}
+use Rattle.std.proofs.Common.{Ok, Err, refl, ap, add-one, drop-cons, suc}
 use Rattle.std.proofs.lemmas.List.{drop_all}
 use Rattle.st_program.specs.Terms.{Command, Block, no_commands, command_then}
 use Rattle.st_program.specs.Views.{commands_of}
 use Rattle.st_types.specs.declared.errors.TypeError.{TypeError}
-use Rattle.st_types.specs.Checked.{Checked, verdict, ◌>>=◌}
+use Rattle.st_types.specs.Checked.{Checked, ◌>>=◌}
 use Rattle.st_types.specs.Statements.{Reached}
 use Rattle.st_types.specs.Stepwise.{Stepped, SteppedBlock, step_all}
 

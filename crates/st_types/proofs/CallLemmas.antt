@@ -4,7 +4,7 @@ use Rattle.st_events.specs.declared.events.Site.{Site}
 use Rattle.st_ast.specs.declared.declarations.Pred.{Pred}
 use Rattle.st_ast.specs.declared.expressions.Expr.TheOpen.{Expr-F}
 use Rattle.st_program.specs.Terms.{Term, a_call, Command, a_proc_call}
-use Rattle.st_program.specs.Views.{term_of, term_layer, terms_of, args_of, command_of, command_layer}
+use Rattle.st_program.specs.Views.{term_of, term_layer, args_of, command_of, command_layer}
 use Rattle.st_program.specs.declared.expressions.Expr.{Expr}
 use Rattle.st_program.specs.declared.expressions.Expr.TheVariants.{Call, rolls-Call}
 use Rattle.st_program.specs.declared.expressions.Expr.TheFolds.{fold-roll-Expr}
@@ -20,10 +20,10 @@ use Rattle.st_types.specs.Statements.{asks_proc}
 use Rattle.st_types.specs.Stepwise.{proc_command}
 use Rattle.st_types.specs.declared.errors.TypeError.{TypeError}
 use Rattle.st_types.specs.declared.expressions.Typing.{Typing}
-use Rattle.st_types.specs.Checked.{Checked, verdict}
+use Rattle.st_types.specs.Checked.{verdict}
 use Rattle.st_types.specs.Judged.{outcome}
 use Rattle.st_types.specs.Names.{kind_of, pred_number, proc_number}
-use Rattle.st_types.specs.Nodes.{Seen, rule, node, asks_args, asks_call, find_pred, number_or_0, result_kind}
+use Rattle.st_types.specs.Nodes.{Seen, asks_args, number_or_0}
 use Rattle.st_types.specs.Scopes.{ScopeView}
 use Rattle.st_types.specs.Typing.{seen_of}
 

@@ -1,7 +1,7 @@
 -- A check takes no more arguments than its expression has distinct names.
 use Rattle.std.proofs.Common.{eq-eqb}
 use Rattle.std.proofs.Common.{◌≡◌, ℕ, ◌+◌, ◌≤◌, ◌==◌, Bool, true, false, List, [], ◌∷◌, ◌++◌, length, map, Option, Some, None, refl, ap, sym}
-use Rattle.std.proofs.Common.{◌∙◌, subst, arith, cond, length-append, zero-add}
+use Rattle.std.proofs.Common.{◌∙◌, arith, length-append, zero-add}
 use Rattle.std.specs.Prelude.{◌||◌, slice_get, if◌then◌else◌}
 use Rattle.std.specs.List.{list_any, flat_map}
 use Rattle.std.specs.Str.{bytes_eq}

@@ -1,9 +1,9 @@
 -- Values one after another: how far a loop has come.
 use Rattle.std.proofs.Common.{◌≡◌, ℕ, ◌+◌, ◌<◌, ◌≤◌, List, [], ◌∷◌, ◌++◌, map, length, drop, get_or}
-use Rattle.std.proofs.Common.{Result, Ok, Err, refl, ap, sym, ◌∙◌, subst, add-one, drop-cons, append_assoc, append-nil, suc, arith}
+use Rattle.std.proofs.Common.{Ok, Err, refl, ap, add-one, drop-cons, append_assoc, append-nil, suc}
 use Rattle.std.proofs.lemmas.List.{drop_all}
 use Rattle.st_types.specs.declared.errors.TypeError.{TypeError}
-use Rattle.st_types.specs.Checked.{Checked, verdict, ◌>>=◌}
+use Rattle.st_types.specs.Checked.{Checked, ◌>>=◌}
 use Rattle.st_types.specs.Judged.{each_of}
 
 -- values that are there already, and then others

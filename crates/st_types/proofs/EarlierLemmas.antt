@@ -1,6 +1,6 @@
 -- Declarations one after another, each with those before it: how far a loop over them has come.
-use Rattle.std.proofs.Common.{◌≡◌, ℕ, ◌+◌, ◌<◌, ◌≤◌, List, [], ◌∷◌, ◌++◌, map, length, take, drop, get_or, Result, Ok, Err, IsErrAnd, refl, ap, sym}
-use Rattle.std.proofs.Common.{◌∙◌, subst, add-one, drop-cons, suc, arith}
+use Rattle.std.proofs.Common.{◌≡◌, ℕ, ◌+◌, ◌<◌, ◌≤◌, List, [], ◌∷◌, ◌++◌, map, length, take, drop, get_or, Ok, Err, IsErrAnd, refl, ap, sym}
+use Rattle.std.proofs.Common.{◌∙◌, subst, add-one, drop-cons}
 use Rattle.std.proofs.Math.Seq.{take-suc}
 use Rattle.std.proofs.lemmas.List.{drop_all, take_all, map-append, take_more}
 use Rattle.st_types.specs.declared.errors.TypeError.{TypeError}

@@ -1,6 +1,6 @@
 -- Locals that are known no more: how far a loop over them has come.
-use Rattle.std.proofs.Common.{◌≡◌, ℕ, ◌+◌, ◌<◌, zero, suc, List, [], ◌∷◌, ◌++◌, map, length, take, drop, get_or, set, Bool, false, refl, ap, arith}
-use Rattle.std.proofs.Common.{◌≤◌, ◌-◌, sym, ◌∙◌, append-nil, length-append}
+use Rattle.std.proofs.Common.{◌≡◌, ℕ, ◌<◌, zero, suc, List, [], ◌∷◌, ◌++◌, map, length, take, drop, get_or, set, false, refl, ap, arith}
+use Rattle.std.proofs.Common.{◌≤◌, ◌-◌, ◌∙◌, append-nil, length-append}
 use Rattle.std.proofs.lemmas.List.{length-drop, drop_all, take_all, length-map, length-take-le, with_items_is, map-append, take-map, drop-map}
 use Rattle.std.specs.Prelude.{Vec}
 use Rattle.std.specs.Vec.{with_items}

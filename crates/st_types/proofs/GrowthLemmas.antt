@@ -1,20 +1,16 @@
 -- How far the code's walk is behind statements, and what room the limits leave.
-use Rattle.std.proofs.Common.{◌≡◌, ℕ, ◌+◌, ◌≤◌, ◌<◌, List, [], ◌∷◌, map, length, take, drop, get_or, Option, Some, None, Result, Ok, Err, refl, ap, sym}
+use Rattle.std.proofs.Common.{◌≡◌, ◌+◌, List, map, length, Ok, ap, sym}
 use Rattle.std.proofs.Common.{◌∙◌, subst, arith, append-nil}
-use Rattle.std.specs.Prelude.{max}
 use Rattle.std.proofs.lemmas.List.{length-map, take_all, drop_all}
 use Rattle.st_ast.specs.declared.declarations.Program.{Program}
 use Rattle.st_ast.specs.declared.statements.Stmt as trees
 use Rattle.st_program.specs.declared.statements.Stmt.{Stmt}
-use Rattle.st_types.specs.declared.errors.TypeError.{TypeError}
 use Rattle.st_types.specs.declared.walks.Walk.{Walk}
-use Rattle.st_types.specs.Checked.{Checked, verdict}
 use Rattle.st_types.specs.Names.{Local}
-use Rattle.st_types.specs.Statements.{Reached, walk, walk_all, walk_block, closed, forgotten}
+use Rattle.st_types.specs.Statements.{Reached, walk, walk_all, walk_block, closed}
 use Rattle.st_types.specs.Stepwise.{Stepped, SteppedBlock, step, step_all, step_block}
 use Rattle.st_types.specs.Tallies.{Tally, joined, tally, tally_all}
-use Rattle.st_types.specs.Walks.{reached_of, stepped_at, stepped_block_at, launched_of, HasRoom}
-use Rattle.st_types.specs.Scopes.{local_view}
+use Rattle.st_types.specs.Walks.{reached_of, stepped_at, stepped_block_at, HasRoom}
 use Rattle.st_types.proofs.CheckedLemmas.{value_is}
 use Rattle.st_types.proofs.TallyLemmas.{HasGrown, walk_grows, walk_all_grows, block_grows}
 use Rattle.st_types.proofs.WalkLemmas.{step_is_first, steps_are_first, stepped_of, stepped_block_of, block_is}

@@ -1,5 +1,5 @@
 -- An expression comes to the first of its faults, or to what is seen of it where it has none.
-use Rattle.std.proofs.Common.{◌≡◌, List, [], ◌∷◌, ◌++◌, map, Ok, Err, refl, ap, sym, ◌∙◌, subst}
+use Rattle.std.proofs.Common.{◌≡◌, List, [], ◌∷◌, ◌++◌, map, Ok, refl, ap, sym, ◌∙◌, subst}
 use Rattle.st_ast.specs.declared.expressions.Expr.{Expr}
 use Rattle.st_ast.specs.declared.expressions.Expr.TheViews.{roll-Expr}
 use Rattle.st_ast.specs.declared.expressions.Expr.TheFolds.{fold-roll-Expr, ind-Expr, map-Expr}

@@ -1,11 +1,10 @@
 -- A whole tree comes to the first of its faults, or to itself with numbers.
-use Rattle.std.proofs.Common.{◌≡◌, ℕ, ◌+◌, ◌<◌, ◌≤◌, List, [], ◌∷◌, ◌++◌, map, length, take, get_or, Result, Ok, Err, IsErrAnd, refl, ap, sym}
+use Rattle.std.proofs.Common.{◌≡◌, ℕ, ◌+◌, ◌<◌, ◌≤◌, List, [], ◌∷◌, ◌++◌, map, length, take, get_or, Ok, Err, IsErrAnd, refl, ap, sym}
 use Rattle.std.proofs.Common.{◌∙◌, subst, arith, append_assoc, append-nil, Vec, Global}
-use Rattle.std.specs.Prelude.{max, IfOk, IfErr}
+use Rattle.std.specs.Prelude.{IfOk, IfErr}
 use Rattle.std.proofs.lemmas.List.{length-map, map-append, take_more}
 use Rattle.st_ast.specs.declared.declarations.Program.{Program}
-use Rattle.st_events.specs.declared.limits.TheConstants.{MOST_MUTATORS}
-use Rattle.st_events.specs.declared.shapes.TheConstants.{MOST_CHECKS, MOST_ARGS}
+use Rattle.st_events.specs.declared.shapes.TheConstants.{MOST_CHECKS}
 use Rattle.st_program.specs.Terms.{Predicate}
 use Rattle.st_program.specs.Views.{predicate_of, routine_of, check_of}
 use Rattle.st_program.specs.declared.programs.Body.{Body}
@@ -16,13 +15,13 @@ use Rattle.st_types.specs.declared.errors.TypeError.{TypeError}
 use Rattle.st_types.specs.declared.errors.TypeError.TheVariants.{Memory, UnknownName, Twice, Mismatch, WrongCount, NotPure, NotHere}
 use Rattle.st_types.specs.declared.walks.Launched as code_launched
 use Rattle.st_types.specs.Checked.{Checked, verdict, Fails}
-use Rattle.st_types.specs.Limits.{HasRoomFor, IsWithinLimits, proc_tally, thread_tally, tally_of}
+use Rattle.st_types.specs.Limits.{HasRoomFor, IsWithinLimits, proc_tally, thread_tally}
 use Rattle.st_types.specs.Outcomes.{IsFirstFault, Parts, bodies_of, walked_bodies, resolved_at, resolved_of, joined_parts, Whole}
-use Rattle.st_types.specs.Routines.{Routed, RoutedAll, routed, routed_all, routed_at, routed_all_at}
+use Rattle.st_types.specs.Routines.{RoutedAll, routed_all, routed_all_at}
 use Rattle.st_types.specs.Rules.{each_with_earlier, class_faults, fields_faults, pred_faults, predicate_at, faults_of, resolution, shape_of, class_kinds, WalkedRoutine}
 use Rattle.st_types.specs.Rules.{walk_routines, walk_proc, walk_thread, walked_procs, walked_threads}
 use Rattle.st_types.specs.Statements.{Launched}
-use Rattle.st_types.specs.Tallies.{Tally, joined, all_of}
+use Rattle.st_types.specs.Tallies.{Tally, all_of}
 use Rattle.st_types.specs.TypedPrograms.{IsTyped}
 use Rattle.st_types.specs.Walks.{launched_of}
 use Rattle.st_types.proofs.CheckedLemmas.{no_faults, value_is, fails_too, first_of_more}

@@ -1,15 +1,15 @@
 -- A predicate, once its parameters and its body are seen.
-use Rattle.std.proofs.Common.{◌≡◌, ℕ, ◌+◌, ◌<◌, List, [], ◌∷◌, ◌++◌, map, length, take, get_or, true, Result, Ok, Err, refl, ap, sym, ◌∙◌, subst, append-nil}
+use Rattle.std.proofs.Common.{◌≡◌, ℕ, ◌+◌, ◌<◌, List, [], ◌∷◌, ◌++◌, map, length, take, get_or, true, Ok, Err, refl, ap, sym, ◌∙◌}
 use Rattle.std.proofs.lemmas.List.{take_more, map-append}
 use Rattle.st_ast.specs.declared.declarations.Param.{Param}
 use Rattle.st_ast.specs.declared.declarations.Pred.{Pred}
 use Rattle.st_ast.specs.declared.declarations.Program.{Program}
 use Rattle.st_events.specs.declared.shapes.Kind.{Kind}
-use Rattle.st_program.specs.Terms.{Term, Predicate}
+use Rattle.st_program.specs.Terms.{Term}
 use Rattle.st_types.specs.declared.errors.TypeError.{TypeError}
 use Rattle.st_types.specs.declared.kinds.Found.{Found}
 use Rattle.st_types.specs.declared.scopes.Local as code_local
-use Rattle.st_types.specs.Checked.{Checked, verdict, Fails}
+use Rattle.st_types.specs.Checked.{verdict, Fails}
 use Rattle.st_types.specs.Judged.{judged, typed}
 use Rattle.st_types.specs.Kinds.{asks}
 use Rattle.st_types.specs.Names.{Local, kind_of}

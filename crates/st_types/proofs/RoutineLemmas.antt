@@ -1,5 +1,5 @@
 -- Procedures and threads one after another: how far a loop over them has come.
-use Rattle.std.proofs.Common.{◌≡◌, ℕ, ◌+◌, ◌<◌, ◌≤◌, List, [], ◌∷◌, ◌++◌, map, length, take, drop, get_or, Result, Ok, Err, refl, ap, sym}
+use Rattle.std.proofs.Common.{◌≡◌, ℕ, ◌+◌, ◌<◌, ◌≤◌, List, [], ◌∷◌, ◌++◌, map, length, take, drop, get_or, Ok, Err, refl, ap, sym}
 use Rattle.std.proofs.Common.{◌∙◌, subst, arith, add-one, drop-cons, suc, append_assoc, append-nil}
 use Rattle.std.specs.Prelude.{Vec}
 use Rattle.std.specs.declared.alloc.Global.{Global}
@@ -24,7 +24,7 @@ use Rattle.st_types.specs.Names.{Local}
 use Rattle.st_types.specs.Routines.{Routed, RoutedAll, routed, routed_all, routed_at, routed_all_at}
 use Rattle.st_types.specs.Rules.{param_locals, walk_body, walked_body, WalkedRoutine, WalkedRoutines, walk_routines, walk_proc, walk_thread}
 use Rattle.st_types.specs.Scopes.{local_view}
-use Rattle.st_types.specs.Statements.{Launched, Reached, known_kind, walk, walk_all}
+use Rattle.st_types.specs.Statements.{Launched, Reached, known_kind}
 use Rattle.st_types.specs.Stepwise.{SteppedBlock, step, step_all}
 use Rattle.st_types.specs.Tallies.{Tally, joined, all_of}
 use Rattle.st_types.specs.Walks.{reached_of, launched_of, stepped_block_at}

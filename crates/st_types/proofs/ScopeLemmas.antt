@@ -1,8 +1,8 @@
 -- What is found among the locals of the code, and among their views.
-use Rattle.std.proofs.Common.{◌≡◌, ℕ, ◌+◌, Bool, true, false, cond, ◌&&◌, List, [], ◌∷◌, map, length, get_or, ◌<◌, position, slice_get, Option, Some}
-use Rattle.std.proofs.Common.{None, refl, ap, sym, ◌∙◌, arith}
-use Rattle.std.specs.Prelude.{option_map, nat_lt, not, ◌||◌}
-use Rattle.std.specs.List.{prefix_len, position_or_len, list_any}
+use Rattle.std.proofs.Common.{◌≡◌, ℕ, ◌+◌, Bool, cond, ◌&&◌, List, [], ◌∷◌, map, length, get_or, ◌<◌, position, slice_get, Option, Some}
+use Rattle.std.proofs.Common.{None, refl, ap, ◌∙◌}
+use Rattle.std.specs.Prelude.{option_map, not, ◌||◌}
+use Rattle.std.specs.List.{prefix_len, list_any}
 use Rattle.std.specs.Option.{option_and_then}
 use Rattle.std.specs.Str.{bytes_eq}
 use Rattle.std.proofs.lemmas.List.{length-map}

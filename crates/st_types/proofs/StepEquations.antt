@@ -15,7 +15,7 @@ use Rattle.st_program.specs.declared.statements.Stmt as code
 use Rattle.st_types.specs.declared.errors.TypeError.TheVariants.{Memory, UnknownName, Twice, Mismatch, WrongCount, NotPure, NotHere}
 use Rattle.st_types.specs.declared.walks.Walk.{Walk}
 use Rattle.st_types.specs.Checked.{Checked, Gives}
-use Rattle.std.proofs.Common.{◌∷◌, true, subst}
+use Rattle.std.proofs.Common.{true, subst}
 use Rattle.std.proofs.lemmas.List.{length-map}
 use Rattle.st_events.specs.declared.shapes.Kind.{Kind}
 use Rattle.st_program.specs.Terms.{Term, a_launch}

@@ -1,8 +1,8 @@
 -- What statements have of what is limited, and how far the walk is behind them.
-use Rattle.std.proofs.Common.{◌≡◌, ℕ, ◌+◌, ◌≤◌, ◌<◌, List, [], ◌∷◌, ◌++◌, map, length, take, drop, get_or, Option, Some, None, Result, Ok, Err}
-use Rattle.std.proofs.Common.{refl, ap, sym, ◌∙◌, subst, arith, suc, add-one, drop-cons, append_assoc, length-append}
-use Rattle.std.proofs.lemmas.List.{length-map, take-append-drop, drop_all}
-use Rattle.std.specs.Prelude.{option_map, max}
+use Rattle.std.proofs.Common.{◌≡◌, ℕ, ◌+◌, ◌<◌, List, [], ◌∷◌, ◌++◌, map, length, take, drop, get_or, Option, Some, None}
+use Rattle.std.proofs.Common.{refl, ap, sym, ◌∙◌, subst, arith, add-one, drop-cons, length-append}
+use Rattle.std.proofs.lemmas.List.{length-map, take-append-drop}
+use Rattle.std.specs.Prelude.{option_map}
 use Rattle.st_events.specs.declared.events.Site.{Site}
 use Rattle.st_ast.specs.declared.declarations.Program.{Program}
 use Rattle.st_ast.specs.declared.expressions.Expr.{Expr}
@@ -11,8 +11,8 @@ use Rattle.st_ast.specs.declared.statements.Stmt.TheOpen.{Stmt-F}
 use Rattle.st_ast.specs.declared.statements.Stmt.TheViews.{roll-Stmt}
 use Rattle.st_ast.specs.declared.statements.Stmt.TheVariants as stmts
 use Rattle.st_ast.specs.declared.statements.Stmt.TheFolds.{fold-roll-Stmt, ind-Stmt, map-Stmt}
-use Rattle.st_types.specs.Names.{Local, kind_of}
-use Rattle.st_types.specs.Statements.{Launched, Reached, launch, Walked, walk_all, walk_block, walk_node, walk, other_walks, closed, forgotten}
+use Rattle.st_types.specs.Names.{Local}
+use Rattle.st_types.specs.Statements.{Reached, Walked, walk_all, walk_block, walk_node, walk, forgotten}
 use Rattle.st_types.specs.Tallies.{Tally, empty, joined, all_of, tally, tally_node, tally_all, of_other}
 
 -- the walk has so many more locals and check statements behind it

@@ -1,9 +1,8 @@
 -- What an expression comes to, node by node.
-use Rattle.std.proofs.Common.{◌≡◌, ℕ, List, [], ◌∷◌, map, Ok, Err, refl, ap, sym, ◌∙◌}
+use Rattle.std.proofs.Common.{◌≡◌, ℕ, List, map, Ok, Err, refl, ap, sym, ◌∙◌}
 use Rattle.st_events.specs.declared.events.Site.{Site}
-use Rattle.st_ast.specs.declared.operators.Op.{Op}
 use Rattle.st_ast.specs.declared.expressions.Expr.{Expr}
-use Rattle.st_ast.specs.declared.expressions.Expr.TheVariants.{Call, Cond, rolls-Call, rolls-Cond}
+use Rattle.st_ast.specs.declared.expressions.Expr.TheVariants.{Call, rolls-Call}
 use Rattle.st_ast.specs.declared.expressions.Expr.TheFolds.{fold-roll-Expr}
 use Rattle.st_ast.specs.declared.expressions.Expr.TheOpen.{Expr-F}
 use Rattle.st_types.specs.Checked.{Checked, ◌>>=◌}

@@ -1,6 +1,5 @@
 -- A statement, walked up to its first fault, comes to the first of the faults of its walk, or to itself with numbers where it has none.
-use Rattle.std.specs.Prelude.{option_map}
-use Rattle.std.proofs.Common.{◌≡◌, ℕ, List, [], ◌∷◌, ◌++◌, map, length, Option, Some, None, Result, Ok, Err, refl, ap, sym, ◌∙◌, subst, append_assoc, append-nil}
+use Rattle.std.proofs.Common.{◌≡◌, ℕ, List, [], ◌∷◌, ◌++◌, map, length, Option, Some, None, Ok, refl, ap, sym, ◌∙◌, subst, append_assoc, append-nil}
 use Rattle.st_events.specs.declared.events.Site.{Site}
 use Rattle.st_ast.specs.declared.declarations.Program.{Program}
 use Rattle.st_ast.specs.declared.declarations.TypeName.{TypeName}
@@ -11,7 +10,7 @@ use Rattle.st_ast.specs.declared.statements.Stmt.TheViews.{roll-Stmt}
 use Rattle.st_ast.specs.declared.statements.Stmt.TheFolds.{fold-roll-Stmt, ind-Stmt, map-Stmt}
 use Rattle.st_ast.specs.declared.statements.Value.{Value}
 use Rattle.st_ast.specs.declared.statements.Value.TheVariants as values
-use Rattle.st_program.specs.Terms.{from_term, a_put, a_set, a_proc_call, an_if, a_while, Command, Block, command_then, a_launch}
+use Rattle.st_program.specs.Terms.{from_term, a_put, a_set, a_proc_call, an_if, a_while, Command, command_then, a_launch}
 use Rattle.st_program.specs.Views.{terms_of}
 use Rattle.st_types.specs.declared.errors.TypeError.{TypeError}
 use Rattle.st_types.specs.Checked.{Checked, verdict, ◌>>=◌}
@@ -22,9 +21,9 @@ use Rattle.st_types.specs.Names.{kind_of, find_local, named_kind, named_number, 
 use Rattle.st_types.specs.Nodes.{Seen, a_bool, asks_name, number_or_0}
 use Rattle.st_types.specs.Scopes.{ScopeView}
 use Rattle.st_types.specs.Statements.{plain_scope, check_scope, judged_value, asks_new, asks_type, asks_proc, is_local, target_at, Given, Reached, Walked, WalkedBlock, walk_all}
-use Rattle.st_types.specs.Statements.{walk_block, walk_node, walk, other_walks, closed, declare, launch}
-use Rattle.st_types.specs.Stepwise.{typed_value, typed_condition, Stepped, SteppedBlock, step_all, step_block, other_steps, step_node, step, stays, var_given, assigned, stored}
-use Rattle.st_types.specs.Stepwise.{called, proc_command, launched}
+use Rattle.st_types.specs.Statements.{walk_block, walk_node, walk, other_walks, closed, declare}
+use Rattle.st_types.specs.Stepwise.{typed_value, typed_condition, Stepped, SteppedBlock, step_all, step_block, other_steps, step_node, step, var_given, assigned, stored}
+use Rattle.st_types.specs.Stepwise.{called, launched}
 use Rattle.st_types.proofs.JudgedLemmas.{typed_is_first}
 
 -- faults, and what follows where there are none

@@ -1,6 +1,5 @@
 -- How many statements a statement is, with those in its blocks: the walk goes from more to fewer.
-use Rattle.std.proofs.Common.{◌≡◌, ℕ, ◌+◌, ◌≤◌, ◌<◌, List, [], ◌∷◌, map, length, get_or, Option, Some, None, ap, sym, ◌∙◌, arith, zero, suc}
-use Rattle.std.specs.Prelude.{option_map}
+use Rattle.std.proofs.Common.{ℕ, ◌+◌, ◌≤◌, ◌<◌, List, [], ◌∷◌, map, length, get_or, Option, Some, None, ap, sym, ◌∙◌, arith, zero, suc}
 use Rattle.st_events.specs.declared.events.Site.{Site}
 use Rattle.st_ast.specs.declared.expressions.Expr.{Expr}
 use Rattle.st_ast.specs.declared.statements.Stmt.{Stmt}

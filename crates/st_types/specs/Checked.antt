@@ -1,7 +1,7 @@
 -- Faults in the order of the walk, and what they come to: the first of them, or what is asked for.
 use Rattle.std.specs.Prelude.{◌≡◌, List, [], ◌∷◌, Result, Ok, Err}
 use Rattle.st_types.specs.declared.errors.TypeError.{TypeError}
-use Rattle.st_types.specs.declared.errors.TypeError.TheVariants.{Memory, UnknownName, Twice, Mismatch, WrongCount, NotPure, NotHere}
+use Rattle.st_types.specs.declared.errors.TypeError.TheVariants.{Memory}
 
 -- a value, or a fault
 abbrev pub Checked : Type 0 → Type 0

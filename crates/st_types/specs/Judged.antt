@@ -1,5 +1,5 @@
 -- The faults of an expression in the order of the walk: those of its operands from left to right, then its own.
-use Rattle.std.specs.Prelude.{List, [], ◌∷◌, ◌++◌, map, Ok, Err}
+use Rattle.std.specs.Prelude.{List, [], ◌∷◌, ◌++◌, map, Ok}
 use Rattle.st_ast.specs.declared.expressions.Expr.{Expr}
 use Rattle.st_ast.specs.declared.expressions.Expr.TheOpen.{Expr-F}
 use Rattle.st_ast.specs.declared.expressions.Expr.TheFolds.{fold-Expr, map-Expr}

@@ -1,5 +1,5 @@
 -- Which kinds go together, and how a mismatch tells them.
-use Rattle.std.specs.Prelude.{ℕ, Bool, true, false, ◌==◌, List, [], ◌∷◌, if◌then◌else◌}
+use Rattle.std.specs.Prelude.{Bool, true, false, ◌==◌, List, [], ◌∷◌, if◌then◌else◌}
 use Rattle.st_events.specs.declared.events.Site.{Site}
 use Rattle.st_events.specs.declared.shapes.Kind.{Kind}
 use Rattle.st_events.specs.declared.shapes.Kind.TheVariants as kinds

@@ -1,5 +1,5 @@
 -- The condition on a tree: there are no more of each than its limit, and stores have places as targets. Whatever the parser gives keeps it.
-use Rattle.std.specs.Prelude.{◌≡◌, ℕ, ◌+◌, ◌≤◌, Bool, true, ◌&&◌, List, [], length, map, All, Vec}
+use Rattle.std.specs.Prelude.{◌≡◌, ◌+◌, ◌≤◌, Bool, true, ◌&&◌, List, [], length, map, All, Vec}
 use Rattle.std.specs.declared.alloc.Global.{Global}
 use Rattle.st_events.specs.declared.shapes.TheConstants.{MOST_CHECKS, MOST_ARGS}
 use Rattle.st_events.specs.declared.limits.TheConstants.{MOST_MUTATORS}

@@ -1,6 +1,6 @@
 -- What a name stands for. A name that is declared twice counts as its first declaration.
-use Rattle.std.specs.Prelude.{ℕ, ◌+◌, ◌-◌, ◌≤◌, ◌==◌, Bool, true, ◌&&◌, List, [], ◌∷◌, length, map, position, slice_get, All, Option, Some, None}
-use Rattle.std.specs.Prelude.{option_map, is_some, if◌then◌else◌}
+use Rattle.std.specs.Prelude.{ℕ, ◌+◌, ◌-◌, ◌≤◌, ◌==◌, Bool, ◌&&◌, List, [], length, map, position, slice_get, All, Option, Some, None}
+use Rattle.std.specs.Prelude.{option_map, if◌then◌else◌}
 use Rattle.std.specs.Option.{option_and_then}
 use Rattle.std.specs.Str.{bytes_eq}
 use Rattle.st_events.specs.declared.shapes.Kind.TheVariants as kinds
@@ -10,13 +10,11 @@ use Rattle.st_ast.specs.declared.declarations.Program.{Program}
 use Rattle.st_ast.specs.declared.declarations.Class.{Class}
 use Rattle.st_ast.specs.declared.declarations.Field.{Field}
 use Rattle.st_ast.specs.declared.declarations.Param.{Param}
-use Rattle.st_ast.specs.declared.declarations.Pred.{Pred}
-use Rattle.st_ast.specs.declared.declarations.Proc.{Proc}
 use Rattle.st_ast.specs.declared.declarations.TypeName.{TypeName}
 use Rattle.st_ast.specs.declared.declarations.TypeName.TheVariants as types
 use Rattle.st_types.specs.declared.kinds.Found.{Found}
 use Rattle.st_types.specs.declared.kinds.Found.TheVariants.{Unknown, Known}
-use Rattle.st_types.specs.declared.limits.TheConstants.{MOST_SOURCE_CLASSES}
+use Rattle.st_ast.specs.declared.limits.TheConstants.{MOST_SOURCE_CLASSES}
 use Rattle.st_types.specs.declared.names.Named.{Named}
 
 -- the number of the class of this name, from 1

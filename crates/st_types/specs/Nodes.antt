@@ -1,16 +1,13 @@
 -- What each node of an expression asks, and what it is: its place, its kind, and itself with numbers in the place of names.
-use Rattle.std.specs.Prelude.{ℕ, ◌+◌, ◌==◌, Bool, true, false, List, [], ◌∷◌, ◌++◌, map, length, slice_get, Option, Some, None, is_some, Ok, Err, if◌then◌else◌}
+use Rattle.std.specs.Prelude.{ℕ, ◌==◌, Bool, true, List, [], ◌∷◌, ◌++◌, map, length, slice_get, Option, Some, None, is_some, Ok, Err, if◌then◌else◌}
 use Rattle.st_events.specs.declared.events.Site.{Site}
-use Rattle.st_events.specs.declared.shapes.Kind.{Kind}
 use Rattle.st_events.specs.declared.shapes.Kind.TheVariants as kinds
 use Rattle.st_ast.specs.declared.declarations.Program.{Program}
 use Rattle.st_ast.specs.declared.declarations.Param.{Param}
 use Rattle.st_ast.specs.declared.declarations.Pred.{Pred}
-use Rattle.st_ast.specs.declared.declarations.Proc.{Proc}
 use Rattle.st_ast.specs.declared.expressions.Expr.TheOpen.{Expr-F}
 use Rattle.st_ast.specs.declared.operators.Op.{Op}
 use Rattle.st_ast.specs.declared.operators.Op.TheVariants as op
-use Rattle.st_program.specs.declared.expressions.Operator.{Operator}
 use Rattle.st_program.specs.declared.expressions.Operator.TheVariants as operator
 use Rattle.st_program.specs.Terms.{Term, a_number, a_truth, a_null, a_local, a_shared, a_field, a_not, a_minus, a_binary, a_both, an_either, a_cond, a_call}
 use Rattle.st_program.specs.Views.{terms_of}

@@ -1,5 +1,5 @@
 -- What a whole tree comes to: its first fault, or itself with numbers and its shape.
-use Rattle.std.specs.Prelude.{◌≡◌, List, [], ◌∷◌, ◌++◌, map}
+use Rattle.std.specs.Prelude.{◌≡◌, List, ◌∷◌, ◌++◌, map}
 use Rattle.st_events.specs.Shape.{ShapeLists}
 use Rattle.st_ast.specs.declared.declarations.Program as trees
 use Rattle.st_program.specs.Terms.{Routine, Program}

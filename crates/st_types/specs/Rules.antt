@@ -1,5 +1,5 @@
 -- The rules of types: the faults of a whole tree in the order of the walk, and what the tree is with numbers.
-use Rattle.std.specs.Prelude.{ℕ, ◌+◌, true, false, ◌||◌, List, [], ◌∷◌, ◌++◌, map, length, is_some}
+use Rattle.std.specs.Prelude.{true, ◌||◌, List, [], ◌∷◌, ◌++◌, map, length, is_some}
 use Rattle.std.specs.List.{list_any}
 use Rattle.std.specs.Str.{bytes_eq}
 use Rattle.st_events.specs.Shape.{ShapeLists}
@@ -14,11 +14,11 @@ use Rattle.st_ast.specs.declared.declarations.Thread.{Thread}
 use Rattle.st_ast.specs.declared.statements.Stmt.{Stmt}
 use Rattle.st_program.specs.Terms.{Predicate, Routine, Program}
 use Rattle.st_types.specs.declared.errors.TypeError.{TypeError}
-use Rattle.st_types.specs.Judged.{Judged, judged, in_order}
+use Rattle.st_types.specs.Judged.{judged, in_order}
 use Rattle.st_types.specs.Kinds.{asks}
 use Rattle.st_types.specs.Names.{kind_of, pred_number, Local}
 use Rattle.st_types.specs.Scopes.{ScopeView}
-use Rattle.st_types.specs.Statements.{asks_type, asks_new, known_kind, Launched, Reached, WalkedBlock, walk, walk_all}
+use Rattle.st_types.specs.Statements.{asks_type, asks_new, known_kind, Launched, WalkedBlock, walk, walk_all}
 
 -- the faults of declarations in their order, where each one is asked with those before it
 abbrev pub each_with_earlier : {X : Type 0} → (List X → X → List TypeError) → List X → List X → List TypeError

@@ -1,5 +1,5 @@
 -- What an expression stands in, without where it lies in memory.
-use Rattle.std.specs.Prelude.{ℕ, ◌≤◌, Bool, List, length, map}
+use Rattle.std.specs.Prelude.{◌≤◌, Bool, List, length, map}
 use Rattle.st_ast.specs.declared.declarations.Program.{Program}
 use Rattle.st_program.specs.declared.limits.TheConstants.{MOST_LOCALS}
 use Rattle.st_types.specs.declared.scopes.Local as code_local

@@ -1,5 +1,5 @@
 -- The walk over statements: their faults in order, the locals that they declare, and what they are with numbers.
-use Rattle.std.specs.Prelude.{ℕ, ◌+◌, ◌==◌, Bool, true, false, not, List, [], ◌∷◌, ◌++◌, map, length, take, drop, slice_get, Option, Some, None, is_some, if◌then◌else◌}
+use Rattle.std.specs.Prelude.{ℕ, ◌==◌, Bool, true, false, List, [], ◌∷◌, ◌++◌, map, length, take, drop, slice_get, Option, Some, None, is_some, if◌then◌else◌}
 use Rattle.std.specs.List.{list_any, flat_map}
 use Rattle.st_events.specs.declared.events.Site.{Site}
 use Rattle.st_events.specs.declared.shapes.Kind.{Kind}
@@ -23,9 +23,9 @@ use Rattle.st_program.specs.Views.{terms_of}
 use Rattle.st_types.specs.declared.errors.TypeError.{TypeError}
 use Rattle.st_types.specs.declared.errors.TypeError.TheVariants.{UnknownName, Twice, NotHere}
 use Rattle.st_types.specs.declared.kinds.Found.{Found}
-use Rattle.st_types.specs.declared.kinds.Found.TheVariants.{Unknown, Known}
+use Rattle.st_types.specs.declared.kinds.Found.TheVariants.{Known}
 use Rattle.st_types.specs.declared.names.Named.{Named}
-use Rattle.st_types.specs.Judged.{Judged, judged, in_order, operands}
+use Rattle.st_types.specs.Judged.{judged, in_order, operands}
 use Rattle.st_types.specs.Kinds.{asks}
 use Rattle.st_types.specs.Names.{class_number, class_kind, kind_of, pred_number, proc_number, Local, find_local, named_kind, named_number}
 use Rattle.st_types.specs.Nodes.{Seen, a_bool, asks_name, asks_args, number_or_0}

@@ -1,5 +1,5 @@
 -- The walk up to its first fault: what the code does, node by node. `proofs/WalkLemmas.antt` shows that it comes to the first of the faults.
-use Rattle.std.specs.Prelude.{ℕ, List, [], ◌∷◌, ◌++◌, map, length, Option, Some, None, Result, Ok, Err, is_some}
+use Rattle.std.specs.Prelude.{ℕ, List, [], ◌∷◌, ◌++◌, map, length, Option, Some, None, Ok}
 use Rattle.st_events.specs.declared.events.Site.{Site}
 use Rattle.st_ast.specs.declared.declarations.Program.{Program}
 use Rattle.st_ast.specs.declared.declarations.TypeName.{TypeName}
@@ -19,7 +19,7 @@ use Rattle.st_types.specs.Kinds.{asks}
 use Rattle.st_types.specs.Names.{class_number, class_kind, kind_of, find_local, named_kind, named_number, proc_number}
 use Rattle.st_types.specs.Nodes.{Seen, a_bool, asks_name, number_or_0}
 use Rattle.st_types.specs.Scopes.{ScopeView}
-use Rattle.st_types.specs.Statements.{plain_scope, asks_class, asks_type, asks_new, is_local, target_at, Given, Launched, Reached, closed, asks_proc, declare}
+use Rattle.st_types.specs.Statements.{plain_scope, asks_class, asks_type, asks_new, is_local, target_at, Given, Reached, closed, asks_proc, declare}
 use Rattle.st_types.specs.Statements.{args_of_check, check_scope, locals_at, known_kind}
 
 -- a value, up to its first fault

@@ -1,5 +1,5 @@
 -- How far the code has walked, as the definitions read it.
-use Rattle.std.specs.Prelude.{ℕ, ◌+◌, ◌≤◌, List, map, length}
+use Rattle.std.specs.Prelude.{◌+◌, ◌≤◌, List, map, length}
 use Rattle.st_events.specs.declared.shapes.TheConstants.{MOST_CHECKS, MOST_ARGS}
 use Rattle.st_program.specs.declared.limits.TheConstants.{MOST_LOCALS}
 use Rattle.st_program.specs.declared.statements.Stmt.{Stmt}

@@ -1,4 +1,4 @@
-use Rattle.std.proofs.Common.{◌+◌, drop, map, sym, ◌∙◌, ap, get_or}
+use Rattle.std.proofs.Common.{◌+◌, drop, map, ◌∙◌, ap}
 use Rattle.std.specs.List.{flat_map}
 use Rattle.st_types.specs.Scopes.{local_view}
 use Rattle.st_types.specs.Statements.{mentions, numbers_of}

@@ -1,5 +1,4 @@
-use Rattle.std.proofs.Common.{slice_get, ap, ◌∙◌, ◌++◌, drop, ◌+◌, List}
-use Rattle.std.specs.List.{flat_map}
+use Rattle.std.proofs.Common.{slice_get, ◌∙◌}
 use Rattle.st_types.specs.Statements.{if_any}
 use Rattle.st_types.proofs.ArgumentLemmas.{found_goes}
 use Rattle.st_types.proofs.arguments.locals_at.Goals as goal

@@ -1,8 +1,7 @@
-use Rattle.std.proofs.Common.{map, drop, sym, ◌∙◌, get_or}
+use Rattle.std.proofs.Common.{map}
 use Rattle.st_types.specs.Judged.{each_of, typed}
 use Rattle.st_types.specs.Scopes.{scope_view}
 use Rattle.st_types.specs.Typing.{seen_of}
-use Rattle.st_types.proofs.EachLemmas.{each_goes}
 use Rattle.st_types.proofs.CheckedLemmas.{fails_next}
 use Rattle.st_types.proofs.TypedEquations.{typed_call}
 use Rattle.st_types.proofs.expressions.+expressions.Goals as goal

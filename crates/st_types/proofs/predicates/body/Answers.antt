@@ -1,7 +1,6 @@
 use Rattle.std.proofs.Common.{ap, sym, ◌∙◌, map}
 use Rattle.st_program.specs.Views.{predicate_of, term_of}
-use Rattle.st_types.specs.Rules.{param_locals}
-use Rattle.st_types.specs.Scopes.{ScopeView, scope_view, local_view}
+use Rattle.st_types.specs.Scopes.{local_view}
 use Rattle.st_types.specs.Typing.{seen_of}
 use Rattle.st_types.proofs.CheckedLemmas.{gives_fault}
 use Rattle.st_types.proofs.PredicateLemmas.{pred_is, pred_scope_is, pred_body_fails, pred_kind_fails}

@@ -1,9 +1,7 @@
-use Rattle.std.proofs.Common.{◌≡◌, ap, sym, ◌∙◌, map, take, List, []}
-use Rattle.std.proofs.lemmas.List.{take_all}
+use Rattle.std.proofs.Common.{map, take}
 use Rattle.st_program.specs.Views.{predicate_of}
-use Rattle.st_types.specs.Checked.{verdict}
-use Rattle.st_types.specs.Rules.{each_with_earlier, pred_faults, predicate_at}
-use Rattle.st_types.proofs.CheckedLemmas.{gives_fault, fails_too, no_faults, value_is}
+use Rattle.st_types.specs.Rules.{pred_faults, predicate_at}
+use Rattle.st_types.proofs.CheckedLemmas.{gives_fault, no_faults, value_is}
 use Rattle.st_types.proofs.EarlierLemmas.{earlier_passes, mapped_goes, preds_fail, preds_are}
 use Rattle.st_types.proofs.predicates.predicates.Goals as goal
 

@@ -1,11 +1,8 @@
-use Rattle.std.proofs.Common.{refl, ap, sym, ◌∙◌, map, length, Vec, Global}
-use Rattle.st_events.specs.declared.shapes.Kind.{Kind}
+use Rattle.std.proofs.Common.{refl, ap, ◌∙◌, map, length}
 use Rattle.st_types.specs.declared.scopes.Local.{Local}
-use Rattle.st_types.specs.declared.walks.Launched as code_launched
-use Rattle.st_types.specs.Rules.{param_locals}
 use Rattle.st_types.specs.Routines.{routed_at}
-use Rattle.st_types.specs.Statements.{Reached, known_kind}
-use Rattle.st_types.specs.Walks.{launched_of, reached_of}
+use Rattle.st_types.specs.Statements.{known_kind}
+use Rattle.st_types.specs.Walks.{launched_of}
 use Rattle.st_types.proofs.CheckedLemmas.{gives_fault}
 use Rattle.st_types.proofs.RoutineLemmas.{body_is, body_fails, begun}
 use Rattle.st_types.proofs.routines.body.Goals as goal

@@ -1,8 +1,8 @@
 use Rattle.std.proofs.Common.{map}
 use Rattle.st_program.specs.Views.{routine_of}
 use Rattle.st_types.specs.Limits.{proc_tally}
-use Rattle.st_types.specs.Routines.{routed_all, routed_all_at}
-use Rattle.st_types.specs.Rules.{walk_routines, walk_proc}
+use Rattle.st_types.specs.Routines.{routed_all_at}
+use Rattle.st_types.specs.Rules.{walk_proc}
 use Rattle.st_types.specs.Walks.{launched_of}
 use Rattle.st_types.proofs.CheckedLemmas.{gives_fault}
 use Rattle.st_types.proofs.RoutineLemmas.{procs_count, room_goes, routed_are, routed_fails, walked_goes}

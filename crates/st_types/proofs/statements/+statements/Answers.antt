@@ -1,10 +1,9 @@
-use Rattle.std.proofs.Common.{◌≡◌, ◌≤◌, ◌+◌, ◌++◌, ◌∷◌, [], Some, None, sym, ◌∙◌, ap, map, length, drop, get_or, arith, Ok}
+use Rattle.std.proofs.Common.{◌+◌, ◌++◌, ◌∷◌, [], Some, sym, ◌∙◌, ap, map, drop, get_or, arith}
 use Rattle.std.proofs.lemmas.List.{map-append}
 use Rattle.st_ast.specs.declared.statements.Stmt.TheVariants as stmts
 use Rattle.st_program.specs.Views.{command_of}
 use Rattle.st_types.specs.Stepwise.{step}
 use Rattle.st_types.specs.Tallies.{tally_all, tally}
-use Rattle.std.proofs.Common.{rules}
 use Rattle.st_types.specs.Scopes.{scope_view}
 use Rattle.st_types.specs.Typing.{seen_of}
 use Rattle.st_types.specs.Walks.{reached_of, stepped_at}
