@@ -1,5 +1,6 @@
 -- What the evaluator's calls promise, from their turns.
 use Rattle.std.proofs.Common.{◌≡◌, ◌≤◌, ℕ, zero, suc, ◌+◌, List, [], ◌∷◌, ◌++◌, length, take, drop, min, Some, slice_get}
+use Rattle.std.proofs.Common.{◌-◌, ◌^◌}
 use Rattle.std.proofs.Common.{refl, sym, ◌∙◌, ap, subst, arith}
 use Rattle.std.proofs.lemmas.List.{append-nil, length-take}
 use Rattle.st_events.specs.Heap.{Heap}
@@ -26,7 +27,7 @@ use Rattle.st_eval.specs.Bodies.{AreBodies, IsCodeOf, check_bodies}
 use Rattle.st_eval.specs.Rests.{course_at, rest_at}
 use Rattle.st_eval.specs.Room.{growth, HasRooms, IsPaused, HasOneRoom}
 use Rattle.st_eval.specs.Runs.{turn_at, IsRun}
-use Rattle.st_eval.specs.Evaluations.{words_of, IsMadeFor, budget, turn_by, IsTurn, IsAfterCells, AnswersInOrder, AsksForObject, MayReply}
+use Rattle.st_eval.specs.Evaluations.{words_of, begun, IsMadeFor, budget, turn_by, IsTurn, IsAfterCells, AsksNext, AnswersInOrder}
 use Rattle.st_eval.proofs.CodeLemmas.{code_runs, then_nothing}
 use Rattle.st_eval.proofs.RoomLemmas.{body_room}
 use Rattle.st_eval.proofs.ReadyLemmas.{one_room, else_of}
@@ -133,19 +134,22 @@ answers_in_order p heap site args calls k e reply (Read obj field) after t h =
     by : (cells : List Cell)
         → drop k (cells_read p heap site args calls) ≡ cells
         → IsTurnFor cells (plain_value p heap site args calls) so_far
-        → (slice_get (cells_read p heap site args calls) k ≡ Some (record { obj = obj; field = field }))
-        × (turn_by p after (word_found heap obj field) ≡ turn_after (words_of_first heap (suc k) (cells_read p heap site args calls)) first)
-    by [] d over = let w : asks obj field t.next t.units ≡ is_over (plain_value p heap site args calls) = sym t.asks_it ∙ h ∙ over in absurd (cc)
+        → AsksNext p heap site args calls k obj field after
+    by [] d over = let w : asks t.object field t.next t.units ≡ is_over (plain_value p heap site args calls) = sym t.asks_it ∙ h ∙ over in absurd (cc)
     by (cell ∷ rest) d asked =
-        let w : asks obj field t.next t.units ≡ asks cell.obj cell.field asked.0 asked.1 = sym t.asks_it ∙ h ∙ asked.2 in
-        let same : cell ≡ record { obj = obj; field = field } = λ i. record { obj = sym (object_asked w) i; field = sym (field_asked w) i } in (
-          cell_there k (cells_read p heap site args calls) cell rest d ∙ ap Some same,
-          t.goes_on (word_found heap obj field)
-              ∙ ap (turn_after (word_found heap obj field ∷ [])) (sym t.asks_it ∙ h)
-              ∙ sym (turn_after_more (words_of_first heap k (cells_read p heap site args calls)) (word_found heap obj field) first)
+        let w : asks t.object field t.next t.units ≡ asks cell.obj cell.field asked.0 asked.1 = sym t.asks_it ∙ h ∙ asked.2 in
+        let same : cell ≡ record { obj = t.object; field = field } = λ i. record { obj = sym (object_asked w) i; field = sym (field_asked w) i } in
+        record {
+          object = t.object;
+          cell = cell_there k (cells_read p heap site args calls) cell rest d ∙ ap Some same;
+          number = t.number;
+          goes_on =
+              t.goes_on (word_found heap t.object field)
+              ∙ ap (turn_after (word_found heap t.object field ∷ [])) (sym t.asks_it ∙ h)
+              ∙ sym (turn_after_more (words_of_first heap k (cells_read p heap site args calls)) (word_found heap t.object field) first)
               ∙ ap (λ (c : Cell). turn_after (words_of_first heap k (cells_read p heap site args calls) ++ word_found heap c.obj c.field ∷ []) first) (sym same)
-              ∙ ap (λ ws. turn_after ws first) (sym (words_further heap k (cells_read p heap site args calls) cell rest d)),
-        )
+              ∙ ap (λ ws. turn_after ws first) (sym (words_further heap k (cells_read p heap site args calls) cell rest d));
+        }
 answers_in_order p heap site args calls k e reply (Done plain) after t h =
     by (drop k (cells_read p heap site args calls)) refl (checks_ask_in_order p heap site args calls k)
   where
@@ -159,42 +163,48 @@ answers_in_order p heap site args calls k e reply (Done plain) after t h =
     by [] d over = let w : is_over plain ≡ is_over (plain_value p heap site args calls) = sym t ∙ h ∙ over in (d, cc)
     by (cell ∷ rest) d asked = let w : is_over plain ≡ asks cell.obj cell.field asked.0 asked.1 = sym t ∙ h ∙ asked.2 in absurd (cc)
 
--- the stack where a check begins
+-- the evaluator where a check begins
 pub started :
-    (code : ProgramCode) (site : ℕ) (args : Args) (s after : Activations) (spans : List Span) (number count : ℕ) (span : Span)
-    → spans ≡ code.checks
+    (e after : Eval) (site : ℕ) (args : Args) (spans : List Span) (number count : ℕ) (span : Span)
+    → spans ≡ e.code.checks
     → number ≡ site
     → count ≡ args.count
     → span ≡ span_of spans number
-    → after ≡ alone span (take count args.words) s
-    → after ≡ alone (span_of code.checks site) (words_of args) s
-started code site args s after spans number count span e f g h k =
-    k ∙ (λ i. alone (h i) (take (g i) args.words) s) ∙ (λ i. alone (span_of (e i) (f i)) (words_of args) s)
+    → after ≡ begun span (take count args.words) e
+    → after ≡ begun (span_of e.code.checks site) (words_of args) e
+started e after site args spans number count span f g h k b =
+    b ∙ (λ i. begun (k i) (take (h i) args.words) e) ∙ (λ i. begun (span_of (f i) (g i)) (words_of args) e)
 
--- the evaluator stays the program's
+-- it stays the program's
 pub start_keeps :
-    (p : Program) (e : Eval) (site : ℕ) (args : Args) (after : Activations) (units : ℕ)
+    (p : Program) (e after : Eval) (site : ℕ) (args : Args)
     → IsMadeFor p e
     → args.count ≤ MOST_ARGS
-    → after ≡ alone (span_of e.code.checks site) (words_of args) e.stack
-    → IsMadeFor p (record { code = e.code; stack = after; calls = e.calls; units = units })
-start_keeps p e site args after units made few is =
+    → after ≡ begun (span_of e.code.checks site) (words_of args) e
+    → IsMadeFor p after
+start_keeps p e after site args made few is =
     let n : length (words_of args) ≡ min args.count (length args.words) = length-take args.count args.words in
-    record {
+    subst (λ x. IsMadeFor p x) (sym is)
+    (record {
       code = made.code;
-      room = subst (λ s. IsPaused e.code.instructions e.code.most_words s) (sym is)
-          (start_room p e.code site (words_of args) e.stack made.code (omega arith) (made.room.words_room, made.room.calls_room));
-    }
+      room = start_room p e.code site (words_of args) e.stack made.code (omega arith) (made.room.words_room, made.room.calls_room);
+    })
+
+-- its budget stays
+pub start_budget : (e after : Eval) (span : Span) (locals : List ℕ) → after ≡ begun span locals e → budget after ≡ budget e
+unfolding budget
+start_budget e after span locals is = ap (λ (x : Eval). x.calls) is
 
 -- its first turn is the check's
 pub start_turns :
-    (p : Program) (e : Eval) (site : ℕ) (args : Args) (after : Activations)
+    (p : Program) (e after : Eval) (site : ℕ) (args : Args)
     → IsMadeFor p e
-    → after ≡ alone (span_of e.code.checks site) (words_of args) e.stack
-    → turn_by p (record { code = e.code; stack = after; calls = e.calls; units = e.calls }) 0 ≡ turn_of (check_course p site (words_of args)) (budget e)
+    → after ≡ begun (span_of e.code.checks site) (words_of args) e
+    → turn_by p after 0 ≡ turn_of (check_course p site (words_of args)) (budget e)
 unfolding turn_by budget
-start_turns p e site args after made is =
-    ap (λ s. turn_of (rest_at p.preds e.code.instructions s 0) e.calls) is ∙ start_turn p e.code site (words_of args) e.stack e.calls made.code
+start_turns p e after site args made is =
+    ap (λ (x : Eval). turn_of (rest_at p.preds x.code.instructions x.stack 0) x.units) is
+    ∙ start_turn p e.code site (words_of args) e.stack e.calls made.code
 
 -- and no cell was asked for
 pub start_order :
@@ -203,15 +213,6 @@ pub start_order :
     → IsAfterCells p heap site args calls 0 e 0
 unfolding IsAfterCells
 start_order p heap site args calls e h = h
-
--- a reply is pushed
-pub may_reply :
-    (p : Program) (e : Eval) (reply : ℕ) (s : Activations)
-    → s ≡ pushed reply e.stack
-    → MayReply p e reply
-    → AsksForObject (turn_of (course_at p.preds e.code.instructions s) e.units)
-unfolding MayReply turn_by
-may_reply p e reply s is h = subst (λ x. AsksForObject (turn_of (course_at p.preds e.code.instructions x) e.units)) (sym is) h
 
 -- what the steps come to is the turn
 pub next_turns :
@@ -222,9 +223,11 @@ pub next_turns :
 unfolding IsTurn turn_by
 next_turns p e reply s after units (Read obj field) is h =
     record {
+      object = h.object;
       next = rest_at p.preds e.code.instructions after;
       units = units;
-      asks_it = ap (λ x. turn_of (course_at p.preds e.code.instructions x) e.units) (sym is) ∙ h;
+      asks_it = ap (λ x. turn_of (course_at p.preds e.code.instructions x) e.units) (sym is) ∙ h.asks_it;
+      number = λ few. let n : obj ≡ min h.object (2 ^ 32 - 1) = h.number in omega arith;
       goes_on = λ word. refl;
     }
 next_turns p e reply s after units (Done plain) is h = ap (λ x. turn_of (course_at p.preds e.code.instructions x) e.units) (sym is) ∙ h

@@ -3,8 +3,10 @@ pub mod CodeLemmas
 pub mod CompilingLemmas
 pub mod EvalLemmas
 pub mod FallLemmas
+pub mod ObjectLemmas
 pub mod PartLemmas
 pub mod ReadyLemmas
+pub mod ReplyLemmas
 pub mod RestLemmas
 pub mod RoomLemmas
 pub mod RunLemmas

@@ -13,13 +13,13 @@ use Rattle.st_program.specs.Terms.{Term}
 use Rattle.st_eval.specs.declared.frames.Span.{Span}
 use Rattle.st_eval.specs.declared.instructions.Instruction.{Instruction}
 use Rattle.st_eval.specs.declared.instructions.Instruction.TheVariants.{Push, Local, Shared, Field, Not, Minus, Binary, Both, Either, Test, Skip, Call}
-use Rattle.st_eval.specs.Activations.{Activation, Activations, held_waiting, top_word, local_word, pushed, popped, onward, past, entered, resumed}
+use Rattle.st_eval.specs.Activations.{Activation, Activations, held_waiting, local_word, pushed, onward, past, entered, resumed}
 use Rattle.st_eval.specs.Steps.{Step, goes_on, asks_for, ends, part, span_of, answered, called, acted, returned, stepped, step}
 use Rattle.st_eval.specs.StraightCode.{top}
 use Rattle.st_eval.specs.Bodies.{AreBodies}
-use Rattle.st_eval.specs.Room.{growth, Holds, Wait, HasRoom, HasRooms, IsRunning, IsPaused, HasOneRoom, Needs, NeedsNext, NeedsStep, StepsToObject}
+use Rattle.st_eval.specs.Room.{growth, Holds, Wait, HasRoom, HasRooms, IsRunning, IsPaused, HasOneRoom, Needs, NeedsNext, NeedsStep}
 use Rattle.st_eval.proofs.PartLemmas.{part_first, part_past}
-use Rattle.st_eval.proofs.RestLemmas.{same_true, other_false}
+use Rattle.st_eval.proofs.RestLemmas.{other_false}
 use Rattle.st_eval.proofs.RoomLemmas.{body_room, growth_past, holds_from, waiting_hold}
 
 -- what holds after a step
@@ -223,36 +223,29 @@ one_room code most s e few =
 
 -- what an instruction needs is there
 acted_needs :
-    (code : List Instruction) (most : ℕ) (spans : List Span) (i : Instruction) (s : Activations) (words : List ℕ) (units : ℕ)
+    (code : List Instruction) (most : ℕ) (i : Instruction) (s : Activations) (words : List ℕ)
     → Holds (i ∷ part code s.running.place s.running.end) 0 (length words)
     → length words + growth (i ∷ part code s.running.place s.running.end) ≤ most
     → Else code most s
-    → StepsToObject (acted spans i (with_words s words) units)
     → Needs i (with_words s words)
-acted_needs code most spans (Push word) s words units h g e o = one_room code most (with_words s words) e (omega arith)
-acted_needs code most spans (Local local) s words units h g e o = one_room code most (with_words s words) e (omega arith)
-acted_needs code most spans (Shared field) s words units h g e o = tt
-acted_needs code most spans (Field field at) s words units h g e o = by (top_word (with_words s words) == 0) refl o
-  where
-    by : (b : Bool) → (top_word (with_words s words) == 0) ≡ b
-        → StepsToObject (if b then ends (Null at) (popped (with_words s words)) else asks_for (top_word (with_words s words)) field (popped (with_words s words)) units)
-        → Needs (Field field at) (with_words s words)
-    by true k a = λ n. absurd (n (same_true (top_word (with_words s words)) 0 k))
-    by false k a = λ n. a
-acted_needs code most spans Not s [] units h g e o = absurd (omega (arith, h.0))
-acted_needs code most spans Not s (x ∷ xs) units h g e o = one_room code most (with_words s xs) e (omega arith)
-acted_needs code most spans (Minus at) s [] units h g e o = absurd (omega (arith, h.0))
-acted_needs code most spans (Minus at) s (x ∷ xs) units h g e o = one_room code most (with_words s xs) e (omega arith)
-acted_needs code most spans (Binary operator at) s [] units h g e o = absurd (omega (arith, h.0))
-acted_needs code most spans (Binary operator at) s (x ∷ []) units h g e o = absurd (omega (arith, h.0))
-acted_needs code most spans (Binary operator at) s (x ∷ y ∷ ys) units h g e o = one_room code most (with_words s ys) e (omega arith)
-acted_needs code most spans (Both count) s [] units h g e o = absurd (omega (arith, h.0))
-acted_needs code most spans (Both count) s (x ∷ xs) units h g e o = one_room code most (with_words s xs) e (omega arith)
-acted_needs code most spans (Either count) s [] units h g e o = absurd (omega (arith, h.0))
-acted_needs code most spans (Either count) s (x ∷ xs) units h g e o = one_room code most (with_words s xs) e (omega arith)
-acted_needs code most spans (Test count) s words units h g e o = tt
-acted_needs code most spans (Skip count) s words units h g e o = tt
-acted_needs code most spans (Call pred args) s words units h g e o =
+acted_needs code most (Push word) s words h g e = one_room code most (with_words s words) e (omega arith)
+acted_needs code most (Local local) s words h g e = one_room code most (with_words s words) e (omega arith)
+acted_needs code most (Shared field) s words h g e = tt
+acted_needs code most (Field field at) s words h g e = tt
+acted_needs code most Not s [] h g e = absurd (omega (arith, h.0))
+acted_needs code most Not s (x ∷ xs) h g e = one_room code most (with_words s xs) e (omega arith)
+acted_needs code most (Minus at) s [] h g e = absurd (omega (arith, h.0))
+acted_needs code most (Minus at) s (x ∷ xs) h g e = one_room code most (with_words s xs) e (omega arith)
+acted_needs code most (Binary operator at) s [] h g e = absurd (omega (arith, h.0))
+acted_needs code most (Binary operator at) s (x ∷ []) h g e = absurd (omega (arith, h.0))
+acted_needs code most (Binary operator at) s (x ∷ y ∷ ys) h g e = one_room code most (with_words s ys) e (omega arith)
+acted_needs code most (Both count) s [] h g e = absurd (omega (arith, h.0))
+acted_needs code most (Both count) s (x ∷ xs) h g e = one_room code most (with_words s xs) e (omega arith)
+acted_needs code most (Either count) s [] h g e = absurd (omega (arith, h.0))
+acted_needs code most (Either count) s (x ∷ xs) h g e = one_room code most (with_words s xs) e (omega arith)
+acted_needs code most (Test count) s words h g e = tt
+acted_needs code most (Skip count) s words h g e = tt
+acted_needs code most (Call pred args) s words h g e =
     (h.0, λ n. let d : length s.waiting ≤ MOST_DEPTH = e.1 in let c : MOST_DEPTH ≤ s.calls_room = e.3 in omega arith)
 
 -- and what the end of a body needs
@@ -269,16 +262,15 @@ returned_needs code most running (caller ∷ waiting) a b e =
 
 -- what a step needs is there
 pub step_needs :
-    (code : List Instruction) (most : ℕ) (spans : List Span) (s : Activations) (units : ℕ)
+    (code : List Instruction) (most : ℕ) (s : Activations)
     → IsRunning code most s
-    → StepsToObject (step code spans s units)
     → NeedsStep code s
-step_needs code most spans s units h o = by (slice_get (part code s.running.place s.running.end) 0) refl o
+step_needs code most s h = by (slice_get (part code s.running.place s.running.end) 0) refl
   where
-    by : (f : Option Instruction) → slice_get (part code s.running.place s.running.end) 0 ≡ f → StepsToObject (stepped spans f s units) → NeedsNext f s
-    by None k a = returned_needs code most s.running s.waiting s.words_room s.calls_room (else_of code most s _ h)
-    by (Some i) k a =
-        acted_needs code most spans i (onward s) s.running.words units
+    by : (f : Option Instruction) → slice_get (part code s.running.place s.running.end) 0 ≡ f → NeedsNext f s
+    by None k = returned_needs code most s.running s.waiting s.words_room s.calls_room (else_of code most s _ h)
+    by (Some i) k =
+        acted_needs code most i (onward s) s.running.words
         (subst (λ is. Holds is 0 (length s.running.words)) (part_first code s.running.place s.running.end i k) h.running.holds)
         (subst (λ is. length s.running.words + growth is ≤ most) (part_first code s.running.place s.running.end i k) h.running.grows)
-        (else_of code most s _ h) a
+        (else_of code most s _ h)

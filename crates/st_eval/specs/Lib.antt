@@ -3,6 +3,7 @@ pub mod Bodies
 pub mod Evaluations
 pub mod Laws
 pub mod Outcomes
+pub mod Replies
 pub mod Rests
 pub mod Room
 pub mod Runs

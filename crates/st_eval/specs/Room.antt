@@ -1,12 +1,12 @@
 -- Room: how many words a body needs at most, so that no word is pushed without room, and none is taken that is not there.
-use Rattle.std.specs.Prelude.{◌≢◌, ℕ, zero, suc, ◌+◌, ◌-◌, ◌*◌, ◌^◌, ◌<◌, ◌≤◌, List, [], ◌∷◌, length, slice_get, Option, Some, None}
+use Rattle.std.specs.Prelude.{◌≢◌, ℕ, zero, suc, ◌+◌, ◌-◌, ◌*◌, ◌<◌, ◌≤◌, List, [], ◌∷◌, length, slice_get, Option, Some, None}
 use Rattle.st_events.specs.declared.shapes.TheConstants.{MOST_ARGS}
 use Rattle.st_meaning.specs.declared.limits.TheConstants.{MOST_DEPTH}
 use Rattle.st_eval.specs.declared.frames.Span.{Span}
 use Rattle.st_eval.specs.declared.instructions.Instruction.{Instruction}
 use Rattle.st_eval.specs.declared.instructions.Instruction.TheVariants.{Push, Local, Shared, Field, Not, Minus, Binary, Both, Either, Test, Skip, Call}
-use Rattle.st_eval.specs.Activations.{Activation, Activations, held_in_all, top_word, popped, onward, resumed}
-use Rattle.st_eval.specs.Steps.{Step, goes_on, asks_for, ends, part}
+use Rattle.st_eval.specs.Activations.{Activation, Activations, held_in_all, popped, onward, resumed}
+use Rattle.st_eval.specs.Steps.{part}
 
 -- one less, from 1 on
 abbrev pub one_less : ℕ → ℕ
@@ -83,16 +83,12 @@ IsPaused code most s = HasRoom code most s (suc (length s.running.words))
 abbrev pub HasOneRoom : Activations → Type 0
 HasOneRoom s = held_in_all s < s.words_room
 
--- the number of an object has 32 bits
-abbrev pub IsObject : ℕ → Type 0
-IsObject obj = obj < 2 ^ 32
-
 -- what an instruction needs of the stack
 abbrev pub Needs : Instruction → Activations → Type 0
 Needs (Push word) s = HasOneRoom s
 Needs (Local local) s = HasOneRoom s
 Needs (Shared field) s = Unit {0}
-Needs (Field field at) s = top_word s ≢ 0 → IsObject (top_word s)
+Needs (Field field at) s = Unit {0}
 Needs Not s = HasOneRoom (popped s)
 Needs (Minus at) s = HasOneRoom (popped s)
 Needs (Binary operator at) s = HasOneRoom (popped (popped s))
@@ -110,9 +106,3 @@ NeedsNext (Some i) s = Needs i (onward s)
 -- what the next step needs
 abbrev pub NeedsStep : List Instruction → Activations → Type 0
 NeedsStep code s = NeedsNext (slice_get (part code s.running.place s.running.end) 0) s
-
--- the cell that a step asks for is of an object whose number has 32 bits
-abbrev pub StepsToObject : Step → Type 0
-StepsToObject (goes_on s units) = Unit {0}
-StepsToObject (asks_for obj field s units) = IsObject obj
-StepsToObject (ends plain s) = Unit {0}

@@ -6,6 +6,7 @@ use Rattle.st_eval.specs.declared.asks.Ask.{Ask}
 use Rattle.st_eval.specs.declared.asks.Ask.TheVariants.{Read, Done}
 use Rattle.st_eval.specs.declared.program_codes.ProgramCode.{ProgramCode}
 use Rattle.st_eval.specs.Activations.{Activations}
+use Rattle.st_eval.specs.Steps.{narrowed}
 use Rattle.st_eval.specs.Rests.{course_at, rest_at}
 use Rattle.st_eval.specs.Room.{IsPaused, HasRooms}
 
@@ -13,9 +14,15 @@ use Rattle.st_eval.specs.Room.{IsPaused, HasRooms}
 abbrev pub turn_at : Program → ProgramCode → Activations → ℕ → Turn
 turn_at p code s units = turn_of (course_at p.preds code.instructions s) units
 
+-- the turn asks for a field of an object whose number is told, and goes on from the stack with the units that are left
+pub record AsksFrom (p : Program) (code : ProgramCode) (turn : Turn) (obj field : ℕ) (s : Activations) (units : ℕ) : Type 0 where
+  pub object : ℕ
+  pub asks_it : turn ≡ asks object field (rest_at p.preds code.instructions s) units
+  pub number : obj ≡ narrowed object
+
 -- the answer is the turn
 abbrev pub IsRun : Program → ProgramCode → Turn → Ask → Activations → ℕ → Type 0
-IsRun p code turn (Read obj field) s units = turn ≡ asks obj field (rest_at p.preds code.instructions s) units
+IsRun p code turn (Read obj field) s units = AsksFrom p code turn obj field s units
 IsRun p code turn (Done plain) s units = turn ≡ is_over plain
 
 -- what is left of the stack: a body that waits for a word, or nothing but memory

@@ -1,5 +1,5 @@
 -- What one step of an evaluation does: an instruction is done, or a body is at its end.
-use Rattle.std.specs.Prelude.{ℕ, ◌-◌, ◌==◌, not, if◌then◌else◌, List, length, take, drop, unwrap_or, slice_get, Option, Some, None, neg_ℤ}
+use Rattle.std.specs.Prelude.{ℕ, ◌-◌, ◌==◌, not, if◌then◌else◌, List, length, take, drop, unwrap_or, slice_get, Option, Some, None, neg_ℤ, min, ◌^◌}
 use Rattle.st_events.specs.declared.heaps.TheConstants.{SHARED_OBJECT}
 use Rattle.st_events.specs.declared.verdicts.Plain.{Plain}
 use Rattle.st_events.specs.declared.verdicts.Plain.TheVariants.{Null, Deep, Spent}
@@ -75,3 +75,13 @@ abbrev pub told : Option Ask → Activations → ℕ → Step
 told None s units = goes_on s units
 told (Some (Read obj field)) s units = asks_for obj field s units
 told (Some (Done plain)) s units = ends plain s
+
+-- the number of an object as it is told: a number beyond 32 bits, which no word of a class kind is, counts as the greatest
+abbrev pub narrowed : ℕ → ℕ
+narrowed obj = min obj (2 ^ 32 - 1)
+
+-- a step as it is told
+abbrev pub narrow : Step → Step
+narrow (goes_on s units) = goes_on s units
+narrow (asks_for obj field s units) = asks_for (narrowed obj) field s units
+narrow (ends plain s) = ends plain s

@@ -1,11 +1,11 @@
 //! The evaluator of checks.
-ghost use Rattle.std.specs.Prelude.{◌≡◌, ◌≤◌, ◌+◌, ◌*◌, ℕ, List, IfOk};
+ghost use Rattle.std.specs.Prelude.{◌≡◌, ◌≤◌, ◌+◌, ◌*◌, ℕ, List, length, IfOk};
 ghost use Rattle.st_events.specs.Heap.{Heap};
 ghost use Rattle.st_program.specs.Views.{program_of};
 ghost use Rattle.st_meaning.specs.Plain.{check_course};
 ghost use Rattle.st_meaning.specs.Turns.{turn_of};
 ghost use Rattle.st_eval.specs.Bodies.{IsCodeOf};
-ghost use Rattle.st_eval.specs.Evaluations.{words_of, IsMadeFor, budget, turn_by, MayReply, IsTurn, IsAfterCells, AnswersInOrder, AsksForObject};
+ghost use Rattle.st_eval.specs.Evaluations.{words_of, begun, IsMadeFor, budget, turn_by, IsTurn, IsAfterCells, AnswersInOrder};
 ghost use Rattle.st_eval.specs.Room.{IsRunning};
 ghost use Rattle.st_eval.specs.Runs.{turn_at, IsRun, IsLeft};
 
@@ -14,7 +14,7 @@ use crate::frames::Span;
 use crate::program_codes::{ProgramCode, span_of};
 use crate::stacks::Stack;
 use crate::steps::step;
-use st_events::{Args, MOST_ARGS};
+use st_events::{Args, MOST_ARGS, NoMemory};
 use st_meaning::MOST_DEPTH;
 use st_program::Resolved;
 use std::alloc::{AllocError, Global};
@@ -33,7 +33,7 @@ pub struct Eval {
 
 impl Eval {
     /// An evaluator for a program, in which a check may use at most so many predicate calls.
-    pub fn make(alloc: Global, program: &Resolved, calls: u32) -> Result<Eval, AllocError>
+    pub fn make(alloc: Global, program: &Resolved, calls: u32) -> Result<Eval, NoMemory>
         ensures made { IfOk result (λ e. IsMadeFor (program_of program.now) e) }
         ensures budget { IfOk result (λ e. budget e ≡ calls) }
     {
@@ -60,16 +60,22 @@ impl Eval {
         ensures order { (heap : Heap) → IsAfterCells (program_of program.now) heap site (words_of args) (budget self.old) 0 self.new 0 }
     {
         let span = span_of(self.code.checks.as_slice(), usize::from(site));
-        self.stack
-            .restart(span, &args.words[..usize::from(args.count)]);
+        self.begin(span, &args.words[..usize::from(args.count)]);
+    }
+
+    /// Begins a body alone, with these locals and the whole budget.
+    fn begin(&mut self, span: Span, locals: &[u64])
+        requires { length locals.now ≤ self.old.stack.words_room }
+        ensures { self.new ≡ begun span locals.now self.old }
+    {
+        self.stack.restart(span, locals);
         self.units = self.calls;
     }
 
     /// Goes on by the word of the cell that was asked for last, 0 at first, and asks for the next cell, or is done. After that only
-    /// `start` may be called.
+    /// `start` says what comes.
     pub fn next(&mut self, program: &Resolved, reply: u64) -> Ask
-        requires made { IsMadeFor (program_of program.now) self.old }
-        requires reply { MayReply (program_of program.now) self.old reply }
+        requires { IsMadeFor (program_of program.now) self.old }
         ensures made { IsMadeFor (program_of program.now) self.new }
         ensures budget { budget self.new ≡ budget self.old }
         // The answer is what comes first of the rest.
@@ -93,7 +99,6 @@ impl Eval {
 fn run(program: &Resolved, code: &ProgramCode, stack: &mut Stack, units: &mut u32) -> Ask
     requires code { IsCodeOf (program_of program.now) code.now }
     requires room { IsRunning code.now.instructions code.now.most_words stack.old }
-    requires object { AsksForObject (turn_at (program_of program.now) code.now stack.old units.old) }
     ensures turn { IsRun (program_of program.now) code.now (turn_at (program_of program.now) code.now stack.old units.old) result stack.new units.new }
     ensures left { IsLeft code.now result stack.new }
 {

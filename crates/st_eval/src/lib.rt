@@ -16,4 +16,4 @@ mod steps;
 pub use asks::Ask;
 pub use evals::Eval;
 pub use instructions::Instruction;
-pub use laws::laws_of_code;
+pub use laws::{laws_of_code, laws_of_evaluations};

@@ -29,20 +29,12 @@ impl ProgramCode {
     pub(crate) fn make(alloc: Global, program: &Resolved) -> Result<ProgramCode, AllocError>
         ensures { IfOk result (λ code. IsCodeOf (program_of program.now) code) }
     {
-        let mut instructions = Items::new(alloc);
+        let mut code = Items::new(alloc);
         let mut most_words = 1;
-        let checks = lay_checks(
-            alloc,
-            &mut instructions,
-            &mut most_words,
-            program.checks.as_slice(),
-        )?;
-        let preds = lay_preds(
-            alloc,
-            &mut instructions,
-            &mut most_words,
-            program.preds.as_slice(),
-        )?;
+        let checks = lay_checks(alloc, &mut code, &mut most_words, program.checks.as_slice())?;
+        let preds = lay_preds(alloc, &mut code, &mut most_words, program.preds.as_slice())?;
+        // A copy, since the list that grew keeps up to twice the memory that it needs.
+        let instructions = Items::from_slice(alloc, code.as_slice())?;
         Ok(ProgramCode {
             instructions,
             checks,

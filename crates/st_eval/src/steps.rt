@@ -3,8 +3,8 @@ ghost use Rattle.std.specs.Prelude.{◌≡◌, ◌≢◌, ◌≤◌, ◌<◌, �
 ghost use Rattle.st_meaning.specs.Plain.{verdict_of};
 ghost use Rattle.st_eval.specs.Activations.{onward, popped, resumed, top_word};
 ghost use Rattle.st_eval.specs.Outcomes.{outcome};
-ghost use Rattle.st_eval.specs.Room.{HasOneRoom, IsObject, Needs, NeedsNext, NeedsStep};
-ghost use Rattle.st_eval.specs.Steps.{part, answered, called, acted, returned, step, told};
+ghost use Rattle.st_eval.specs.Room.{HasOneRoom, Needs, NeedsNext, NeedsStep};
+ghost use Rattle.st_eval.specs.Steps.{part, answered, called, acted, returned, step, narrow, told};
 
 use crate::asks::Ask;
 use crate::frames::Span;
@@ -24,7 +24,7 @@ pub(crate) fn step(
     units: &mut u32,
 ) -> Option<Ask>
     requires { NeedsStep code.now stack.old }
-    ensures { step code.now preds.now stack.old units.old ≡ told result stack.new units.new }
+    ensures { narrow (step code.now preds.now stack.old units.old) ≡ told result stack.new units.new }
 {
     match next_instruction(code, stack) {
         None => leave(stack),
@@ -77,7 +77,7 @@ fn verdict(word: u64) -> Plain
 /// Does an instruction.
 fn act(preds: &[Span], stack: &mut Stack, units: &mut u32, instruction: Instruction) -> Option<Ask>
     requires { Needs instruction stack.old }
-    ensures { acted preds.now instruction stack.old units.old ≡ told result stack.new units.new }
+    ensures { narrow (acted preds.now instruction stack.old units.old) ≡ told result stack.new units.new }
 {
     match instruction {
         Instruction::Push(word) => stack.push(word),
@@ -112,15 +112,14 @@ fn push_local(stack: &mut Stack, local: u8)
 
 /// Takes an object, and asks for a field of it; of null that is a fault.
 fn follow(stack: &mut Stack, field: u8, at: Site) -> Ask
-    requires { Needs (Instruction.Field field at) stack.old }
-    ensures { (units : ℕ) → acted [] (Instruction.Field field at) stack.old units ≡ told (Some result) stack.new units }
+    ensures { (units : ℕ) → narrow (acted [] (Instruction.Field field at) stack.old units) ≡ told (Some result) stack.new units }
 {
     let obj = stack.pop();
     if obj == 0 {
         return Ask::Done(Plain::Null(at));
     }
     Ask::Read {
-        obj: obj as u32,
+        obj: obj.min(u64::from(u32::MAX)) as u32,
         field,
     }
 }

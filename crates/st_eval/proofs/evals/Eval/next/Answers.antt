@@ -1,15 +1,11 @@
 use Rattle.std.proofs.Common.{refl}
 use Rattle.st_program.specs.Views.{program_of}
 use Rattle.st_eval.specs.Evaluations.{budget}
-use Rattle.st_eval.proofs.EvalLemmas.{paused_room, may_reply, next_turns, end_turns, answers_in_order}
+use Rattle.st_eval.proofs.EvalLemmas.{paused_room, next_turns, end_turns, answers_in_order}
 use Rattle.st_eval.proofs.evals.Eval.next.Goals as goal
 
 pub push-requires : goal.push-requires
-push-requires c = paused_room c.args.self.now.code.instructions c.args.self.now.code.most_words c.args.self.now.stack c.requires.made.room
-
-pub run-answer-requires-clause-object : goal.run-answer-requires-clause-object
-run-answer-requires-clause-object c =
-    may_reply (program_of c.args.program.now) c.args.self.now c.args.reply c.push.new.self c.push.ensures c.requires.reply
+push-requires c = paused_room c.args.self.now.code.instructions c.args.self.now.code.most_words c.args.self.now.stack c.requires.room
 
 pub returns-in-Done-clause-budget : goal.returns-in-Done-clause-budget
 unfolding budget
