@@ -4,10 +4,10 @@ ghost use Rattle.st_reading.specs.Reading as spec;
 ghost use Rattle.st_parse.specs.Reads.{Reads};
 ghost use Rattle.st_syntax.specs.declared.sorts.Sort.TheVariants as sort;
 
+use crate::blocks::body_block;
 use crate::cursors::Cursor;
 use crate::expressions::expression;
 use crate::places::typed;
-use crate::statements::body_block;
 use crate::stops::Stop;
 use st_ast::{Class, Field, Items, Param, Pred, Proc, Thread};
 use st_syntax::Sort;

@@ -1,12 +1,16 @@
 //! From the tokens of a source to its tree.
 #![tactic(auto)]
 
+mod arguments;
+mod blocks;
+mod chains;
 mod cursors;
 mod declarations;
 mod errors;
 mod expressions;
 mod parser;
 mod places;
+mod primaries;
 mod programs;
 mod statements;
 mod stops;

@@ -6,7 +6,7 @@ use Rattle.st_syntax.specs.Terminals.{next_sort}
 use Rattle.st_parse.proofs.NestedLemmas.{blocks_none, blocks_some}
 use Rattle.st_parse.proofs.ReadsLemmas.{handed_on, loop_stops, more_made, more_stops, many_begins}
 use Rattle.st_parse.proofs.Turns.{no_turn, turn_taken}
-use Rattle.st_parse.proofs.statements.+block.Goals as goal
+use Rattle.st_parse.proofs.blocks.+block.Goals as goal
 
 pub block-returns-then-depth-eq0-clause-reads : goal.block-returns-then-depth-eq0-clause-reads
 block-returns-then-depth-eq0-clause-reads n c = blocks_none c.args.depth c.args.cursor.now c.if-depth-eq0.true
