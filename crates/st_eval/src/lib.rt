@@ -12,6 +12,8 @@ mod operators;
 mod program_codes;
 mod stacks;
 mod steps;
+#[cfg(test)]
+mod tests;
 
 pub use asks::Ask;
 pub use evals::Eval;
