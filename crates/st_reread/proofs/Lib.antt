@@ -1,0 +1,15 @@
+pub mod Again
+pub mod CountLemmas
+pub mod ExprAgain
+pub mod ExprNodes
+pub mod Fine
+pub mod Law
+pub mod Lexed
+pub mod LimitLemmas
+pub mod LineLexed
+pub mod ProgramAgain
+pub mod RereadLemmas
+pub mod StmtAgain
+pub mod StmtNodes
+pub mod TextLemmas
+pub mod Written
