@@ -1,7 +1,7 @@
 -- What is counted in a tree without its places is what is counted in the tree, but for places.
-use Rattle.std.proofs.Common.{◌≡◌, ℕ, ◌+◌, Bool, true, false, ◌||◌, List, [], ◌∷◌, ◌++◌, map, fold, Option, Some, None, refl, ap, sym, ◌∙◌, subst}
+use Rattle.std.proofs.Common.{◌≡◌, ℕ, Bool, true, false, ◌||◌, List, [], ◌∷◌, ◌++◌, map, Some, None, refl, ap, sym, ◌∙◌, subst}
 use Rattle.std.specs.Prelude.{if◌then◌else◌, nat_lt, slice_index}
-use Rattle.std.specs.List.{flat_map, list_any}
+use Rattle.std.specs.List.{flat_map}
 use Rattle.std.specs.Str.{bytes_eq}
 use Rattle.std.proofs.lemmas.List.{map-append}
 use Rattle.st_events.specs.declared.events.Site.{Site}
@@ -26,11 +26,10 @@ use Rattle.st_syntax.specs.declared.counts.Item.{Item}
 use Rattle.st_syntax.specs.declared.counts.Item.TheVariants as item
 use Rattle.st_syntax.specs.declared.counts.What.{What}
 use Rattle.st_syntax.specs.declared.counts.What.TheVariants as what
-use Rattle.st_syntax.specs.Counts.{Mention, all_of, mentions_step, mentions, is_named, argument_item, argument_items, check_items, other_items, stmt_step, stmt_items, field_items}
+use Rattle.st_syntax.specs.Counts.{Mention, all_of, mentions_step, mentions, is_named, argument_item, argument_items, check_items, stmt_step, stmt_items, field_items}
 use Rattle.st_syntax.specs.Counts.{class_items, param_items, head_items, pred_items, proc_items, thread_items, items_of, counted, excess, at_start, most, slot, IsWithinCounts}
 use Rattle.st_reread.specs.Placeless.{nowhere, expr_layer, bare_expr, bare_type, bare_value, stmt_layer, bare_stmt, bare_field, bare_class, bare_param, bare_pred, bare_proc, bare_thread, bare}
 use Rattle.st_reread.proofs.LimitLemmas.{Each, each_from, each_to}
-use Rattle.st_reread.proofs.TextLemmas.{head_or}
 
 abbrev bare_mention : Mention → Mention
 bare_mention m = record { name = m.name; site = nowhere }
@@ -171,7 +170,9 @@ block_also : (ss : List ((s : Stmt) × IsAlso s)) → all_of (map stmt_items (ma
 block_also ss = ap all_of (each_also ss) ∙ all_mapped bare_item (map stmt_items (map (λ s. s.0) ss))
 
 layer_also : (y : Stmt-F ((s : Stmt) × IsAlso s)) → stmt_items (stmt_layer (map-Stmt Stmt Stmt bare_stmt (parts y))) ≡ map bare_item (stmt_step (map-Stmt Stmt (List Item) stmt_items (parts y)))
-layer_also (Stmt-F.Var name name_site kind value site) = ap stmt_items (sym (stmt.rolls-Var name nowhere (bare_type kind) (bare_value value) nowhere)) ∙ items_of_stmt (Stmt-F.Var name nowhere (bare_type kind) (bare_value value) nowhere)
+layer_also (Stmt-F.Var name name_site kind value site) =
+    ap stmt_items (sym (stmt.rolls-Var name nowhere (bare_type kind) (bare_value value) nowhere))
+    ∙ items_of_stmt (Stmt-F.Var name nowhere (bare_type kind) (bare_value value) nowhere)
 layer_also (Stmt-F.Assign name value site) = ap stmt_items (sym (stmt.rolls-Assign name (bare_value value) nowhere)) ∙ items_of_stmt (Stmt-F.Assign name (bare_value value) nowhere)
 layer_also (Stmt-F.Put place value site) = ap stmt_items (sym (stmt.rolls-Put (bare_expr place) (bare_value value) nowhere)) ∙ items_of_stmt (Stmt-F.Put (bare_expr place) (bare_value value) nowhere)
 layer_also (Stmt-F.If cond first None site) =

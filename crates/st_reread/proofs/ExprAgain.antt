@@ -1,11 +1,11 @@
 -- Expressions again.
-use Rattle.std.proofs.Common.{◌≡◌, ℕ, true, false, List, [], ◌∷◌, ◌++◌, map, refl, ap, sym, ◌∙◌, append-nil}
+use Rattle.std.proofs.Common.{◌≡◌, true, false, List, [], ◌∷◌, ◌++◌, map, refl, ap, sym, ◌∙◌, append-nil}
 use Rattle.std.specs.Prelude.{codes}
 use Rattle.std.proofs.lemmas.List.{map-append}
 use Rattle.st_ast.specs.declared.expressions.Expr.{Expr}
 use Rattle.st_ast.specs.declared.expressions.Expr.TheVariants as expr
 use Rattle.st_ast.specs.declared.operators.Op.{Op}
-use Rattle.st_ast.specs.Words.{Word, op_word, in_parens, args_words, call_words, expr_words}
+use Rattle.st_ast.specs.Words.{op_word, args_words, expr_words}
 use Rattle.st_syntax.specs.declared.operators.Chain.TheVariants as chain
 use Rattle.st_syntax.specs.declared.sorts.Sort.TheVariants as sort
 use Rattle.st_syntax.specs.Grammar.{IsPlace, of_local, of_shared, of_field, IsExpr, only, IsOr, or_first, or_next, IsAnd, and_first, and_next, IsCmp, cmp_only, cmp_both}
@@ -14,7 +14,7 @@ use Rattle.st_syntax.specs.Grammar.{number, truth, untruth, null, local, call, s
 use Rattle.st_syntax.specs.Grammar as g
 use Rattle.st_syntax.specs.Terminals.{Terminal, Is}
 use Rattle.st_reread.specs.Placeless.{nowhere, bare_expr}
-use Rattle.st_reread.proofs.Written.{word, blank, IsWord, Written, wrote_none, wrote, wrote_all, is_word, blank_is, name_is, chained_is, compared_is, blank_chained, blank_compared}
+use Rattle.st_reread.proofs.Written.{word, blank, IsWord, wrote_none, wrote, wrote_all, is_word, blank_is, name_is, chained_is, compared_is, blank_chained, blank_compared}
 use Rattle.st_reread.proofs.Again.{Again, made, handed}
 use Rattle.st_reread.proofs.ExprNodes as n
 

@@ -1,5 +1,6 @@
 -- What the canonical text writes for a token is a token of the same kind, with the same value.
-use Rattle.std.proofs.Common.{◌≡◌, ℕ, zero, suc, ◌+◌, ◌-◌, ◌*◌, ◌^◌, ◌<◌, ◌≤◌, Bool, true, false, ◌&&◌, List, [], ◌∷◌, length, fold, refl, ap, sym, ◌∙◌, subst, arith, pos, ℤ}
+use Rattle.std.proofs.Common.{◌≡◌, ℕ, ◌+◌, ◌-◌, ◌*◌, ◌^◌, ◌<◌, ◌≤◌, Bool, true, false}
+use Rattle.std.proofs.Common.{List, [], ◌∷◌, length, fold, refl, ap, sym, ◌∙◌, subst, arith, pos, ℤ}
 use Rattle.std.specs.Prelude.{if◌then◌else◌, nat_le}
 use Rattle.std.specs.Fmt.{decimal, signed_decimal}
 use Rattle.std.specs.Int.{IsInRange}
@@ -87,12 +88,100 @@ found (w ∷ ws) are bytes value used = by (bytes_eq w.0 bytes) refl (found ws a
         ∙ later (sym (ap (λ b. is_used (if b then w.1 else look_up ws bytes)) e) ∙ used)
 
 keywords_are : AreWords keywords
-keywords_are =
-    (λ bytes value. refl, (λ bytes value. refl, (λ bytes value. refl, (λ bytes value. refl, (λ bytes value. refl, (λ bytes value. refl, (λ bytes value. refl, (λ bytes value. refl, (λ bytes value. refl, (λ bytes value. refl, (λ bytes value. refl, (λ bytes value. refl, (λ bytes value. refl, (λ bytes value. refl, (λ bytes value. refl, (λ bytes value. refl, (λ bytes value. refl, tt)))))))))))))))))
+keywords_are = (
+  λ bytes value. refl,
+  (
+    λ bytes value. refl,
+    (
+      λ bytes value. refl,
+      (
+        λ bytes value. refl,
+        (
+          λ bytes value. refl,
+          (
+            λ bytes value. refl,
+            (
+              λ bytes value. refl,
+              (
+                λ bytes value. refl,
+                (
+                  λ bytes value. refl,
+                  (
+                    λ bytes value. refl,
+                    (
+                      λ bytes value. refl,
+                      (
+                        λ bytes value. refl,
+                        (λ bytes value. refl, (λ bytes value. refl, (λ bytes value. refl, (λ bytes value. refl, (λ bytes value. refl, tt))))),
+                      ),
+                    ),
+                  ),
+                ),
+              ),
+            ),
+          ),
+        ),
+      ),
+    ),
+  ),
+)
 
 marks_are : AreWords marks
-marks_are =
-    (λ bytes value. refl, (λ bytes value. refl, (λ bytes value. refl, (λ bytes value. refl, (λ bytes value. refl, (λ bytes value. refl, (λ bytes value. refl, (λ bytes value. refl, (λ bytes value. refl, (λ bytes value. refl, (λ bytes value. refl, (λ bytes value. refl, (λ bytes value. refl, (λ bytes value. refl, (λ bytes value. refl, (λ bytes value. refl, (λ bytes value. refl, (λ bytes value. refl, (λ bytes value. refl, (λ bytes value. refl, (λ bytes value. refl, (λ bytes value. refl, (λ bytes value. refl, (λ bytes value. refl, tt))))))))))))))))))))))))
+marks_are = (
+  λ bytes value. refl,
+  (
+    λ bytes value. refl,
+    (
+      λ bytes value. refl,
+      (
+        λ bytes value. refl,
+        (
+          λ bytes value. refl,
+          (
+            λ bytes value. refl,
+            (
+              λ bytes value. refl,
+              (
+                λ bytes value. refl,
+                (
+                  λ bytes value. refl,
+                  (
+                    λ bytes value. refl,
+                    (
+                      λ bytes value. refl,
+                      (
+                        λ bytes value. refl,
+                        (
+                          λ bytes value. refl,
+                          (
+                            λ bytes value. refl,
+                            (
+                              λ bytes value. refl,
+                              (
+                                λ bytes value. refl,
+                                (
+                                  λ bytes value. refl,
+                                  (
+                                    λ bytes value. refl,
+                                    (λ bytes value. refl, (λ bytes value. refl, (λ bytes value. refl, (λ bytes value. refl, (λ bytes value. refl, (λ bytes value. refl, tt)))))),
+                                  ),
+                                ),
+                              ),
+                            ),
+                          ),
+                        ),
+                      ),
+                    ),
+                  ),
+                ),
+              ),
+            ),
+          ),
+        ),
+      ),
+    ),
+  ),
+)
 
 -- ---- terminals
 

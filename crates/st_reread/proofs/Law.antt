@@ -1,9 +1,9 @@
 -- The canonical text of a tree of the grammar reads back.
-use Rattle.std.proofs.Common.{◌≡◌, ℕ, zero, ◌+◌, ◌-◌, ◌≤◌, List, [], ◌∷◌, ◌++◌, length, drop, map, fold, refl, ap, sym, ◌∙◌, subst, append_assoc, append-nil, arith, inl, inr}
+use Rattle.std.proofs.Common.{◌≡◌, ℕ, ◌+◌, ◌-◌, List, [], ◌∷◌, ◌++◌}
+use Rattle.std.proofs.Common.{map, fold, refl, ap, sym, ◌∙◌, subst, append_assoc, arith}
 use Rattle.std.specs.Prelude.{codes}
 use Rattle.std.specs.List.{flat_map, AllByRecursion}
 use Rattle.std.proofs.lemmas.List.{map-append}
-use Rattle.st_events.specs.declared.events.Site.{Site}
 use Rattle.st_ast.specs.declared.declarations.Class.{Class}
 use Rattle.st_ast.specs.declared.declarations.Field.{Field}
 use Rattle.st_ast.specs.declared.declarations.Pred.{Pred}
@@ -11,26 +11,23 @@ use Rattle.st_ast.specs.declared.declarations.Proc.{Proc}
 use Rattle.st_ast.specs.declared.declarations.Program.{Program}
 use Rattle.st_ast.specs.declared.declarations.Thread.{Thread}
 use Rattle.st_ast.specs.Lines.{class_lines, shared_lines, pred_lines, proc_lines, thread_lines, lines_of, canonical_text}
-use Rattle.st_ast.specs.Words.{Word}
 use Rattle.st_lex.specs.declared.kinds.Token.{Token}
-use Rattle.st_lex.specs.Tokens.{IsToken, IsTokensOf}
-use Rattle.st_parse.specs.Outcomes.{IsProgramOf}
+use Rattle.st_lex.specs.Tokens.{IsToken}
 use Rattle.st_reading.proofs.Exact.{one_tree}
 use Rattle.st_syntax.specs.declared.sorts.Sort.TheVariants as sort
 use Rattle.st_syntax.specs.declared.token_limits.TokenCounts.{TokenCounts}
 use Rattle.st_syntax.specs.Grammar.{AreMany, none, more, IsField, IsClass, class, IsShared, no_shared, shared_block, IsPred, IsProc, IsThread, Parses, program}
-use Rattle.st_syntax.specs.Terminals.{Terminal, Is, terminal_of, terminals_of}
-use Rattle.st_syntax.specs.TokenLimits.{counted_by, counted, excess, at_start, IsWithinTokenLimits}
+use Rattle.st_syntax.specs.Terminals.{Terminal, Is, terminals_of}
+use Rattle.st_syntax.specs.TokenLimits.{counted_by, counted, excess, at_start}
 use Rattle.st_reread.specs.Placeless.{bare_class, bare_field, bare_pred, bare_proc, bare_thread, bare}
 use Rattle.st_reread.specs.Trees.{IsOfGrammar, ReadsBack}
-use Rattle.st_reread.proofs.Written.{word, blank, is_used, Written, wrote_none, wrote, wrote_all, is_word, blank_is}
-use Rattle.st_reread.proofs.Again.{Again, many_again}
-use Rattle.st_reread.proofs.ProgramAgain.{field_again, fields_again, class_again, pred_again, proc_again, thread_again, each_again, braced_fields}
+use Rattle.st_reread.proofs.Written.{blank, Written, wrote_none, wrote, wrote_all, is_word, blank_is}
+use Rattle.st_reread.proofs.ProgramAgain.{fields_again, class_again, pred_again, proc_again, thread_again, each_again, braced_fields}
 use Rattle.st_reread.proofs.StmtNodes.{words_in, words_in_two}
 use Rattle.st_reread.proofs.TextLemmas.{spelled_again}
 use Rattle.st_reread.proofs.LimitLemmas.{Each, each_from, each_to, each_front, each_back, each_both, fold_on, limits_same}
 use Rattle.st_reread.proofs.CountLemmas.{counts_same}
-use Rattle.st_reread.proofs.Fine.{Fine, fine}
+use Rattle.st_reread.proofs.Fine.{fine}
 use Rattle.st_reread.proofs.LineLexed.{IsGood, told_from, lines_read}
 use Rattle.st_reread.proofs.Lexed.{Lexed}
 

@@ -1,24 +1,22 @@
 -- Reading a text that is made of words and blanks: its tokens are the words.
-use Rattle.std.proofs.Common.{◌≡◌, ℕ, ℤ, zero, suc, ◌+◌, ◌-◌, ◌<◌, ◌≤◌, Bool, true, false, not, ◌&&◌, ◌||◌, List, [], ◌∷◌, ◌++◌, length, take, drop, map}
-use Rattle.std.proofs.Common.{refl, ap, sym, ◌∙◌, subst, arith, inl, inr, length-append, length-drop, append_assoc}
+use Rattle.std.proofs.Common.{◌≡◌, ℕ, ℤ, suc, ◌+◌, ◌-◌, ◌<◌, ◌≤◌, Bool, true, false, not, ◌&&◌, List, [], ◌∷◌, ◌++◌, length, take, drop, map}
+use Rattle.std.proofs.Common.{refl, ap, sym, ◌∙◌, subst, arith, inl, length-append, length-drop}
 use Rattle.std.specs.Prelude.{◌==◌, nat_eq, slice_index, slice_range}
 use Rattle.std.specs.List.{list_all, list_any, AllByRecursion}
 use Rattle.std.specs.Str.{bytes_eq}
-use Rattle.std.proofs.lemmas.Bool.{true≢false, false≢true, and_parts, and_from, not-true, eqb-true}
+use Rattle.std.proofs.lemmas.Bool.{true≢false, false≢true, and_parts, not-true, eqb-true}
 use Rattle.std.proofs.lemmas.Bool.Decides.{nat_tests}
 use Rattle.std.proofs.lemmas.List.{drop-drop}
 use Rattle.std.proofs.Math.Seq.{take-append_seam, take-append-add, drop-append_seam}
 use Rattle.st_lex.specs.declared.kinds.Token.{Token}
 use Rattle.st_lex.specs.declared.kinds.TokenKind.{TokenKind}
 use Rattle.st_lex.specs.declared.kinds.TokenKind.TheVariants.{Word, Key, Number, Mark}
-use Rattle.st_lex.specs.declared.words.TheConstants.{SINGLE_MARKS, DOUBLE_MARKS}
-use Rattle.st_lex.specs.Bytes.{is_newline, is_blank, is_letter, is_digit, is_name_byte, opens_comment}
-use Rattle.st_lex.specs.Places.{place_at}
-use Rattle.st_lex.specs.Spellings.{is_name, is_number, is_mark, is_single_mark, is_double_mark, is_spelling, HasForm}
-use Rattle.st_lex.specs.Tokens.{IsGap, IsLongest, IsToken, AreTokensApart, IsTokensOf, text_of}
+use Rattle.st_lex.specs.declared.words.TheConstants.{DOUBLE_MARKS}
+use Rattle.st_lex.specs.Bytes.{is_blank, is_letter, is_digit, is_name_byte, opens_comment}
+use Rattle.st_lex.specs.Spellings.{is_name, is_number, is_mark, is_double_mark, is_spelling, HasForm}
+use Rattle.st_lex.specs.Tokens.{IsGap, IsToken, AreTokensApart, text_of}
 use Rattle.st_lex.specs.Reading.{token_at}
 use Rattle.st_lex.proofs.Runs.{false_where_not_true}
-use Rattle.st_lex.proofs.FormLemmas.{spelled}
 use Rattle.st_lex.proofs.GapLemmas.{gap_none, gap_onto}
 use Rattle.st_syntax.specs.declared.sorts.Sort.{Sort}
 use Rattle.st_syntax.specs.declared.sorts.Sort.TheVariants as sort
@@ -103,6 +101,7 @@ slashes c d h = false_where_not_true (c == 47 && d == 47) (λ both.
     let two : d ≡ 47 = eqb-true d 47 parts.1 in
     let slash : is_double_mark 47 47 ≡ true = subst (λ x. is_double_mark 47 x ≡ true) two (subst (λ x. is_double_mark x d ≡ true) one h) in
     true≢false (sym slash ∙ no_double_slash))
+
 first_apart : (c d : ℕ) → (c == 47) ≡ false → (c == 47 && d == 47) ≡ false
 first_apart c d h = ap (λ t. t && d == 47) h
 

@@ -1,5 +1,5 @@
 -- Limits on tokens and counts, token by token; places do not matter.
-use Rattle.std.proofs.Common.{◌≡◌, ℕ, ◌+◌, ◌-◌, ◌<◌, Bool, true, false, List, [], ◌∷◌, ◌++◌, map, fold, Option, Some, None, refl, ap, sym, ◌∙◌, subst, arith}
+use Rattle.std.proofs.Common.{◌≡◌, Bool, true, false, List, [], ◌∷◌, ◌++◌, map, fold, Option, Some, None, refl, ap, sym, ◌∙◌, subst}
 use Rattle.std.specs.Prelude.{if◌then◌else◌, nat_lt}
 use Rattle.st_events.specs.declared.events.Site.{Site}
 use Rattle.st_syntax.specs.declared.limits.TheConstants.{MOST_TOKENS_BETWEEN}
@@ -69,8 +69,7 @@ limits_same c [] [] e h = tt
 limits_same c [] (u ∷ us) e h = absurd cc
 limits_same c (t ∷ ts) [] e h = absurd cc
 limits_same c (t ∷ ts) (u ∷ us) e h =
-    let same : u.sort ≡ t.sort = ap (λ (l : List Terminal). (head_or (blank u) l).sort) e in
-    (
+    let same : u.sort ≡ t.sort = ap (λ (l : List Terminal). (head_or (blank u) l).sort) e in (
       ap (excess_by c u.site) same ∙ excess_anywhere c t.sort t.site u.site h.0,
       subst (λ k. Each excess counted k us) (sym (ap (counted_by c) same)) (limits_same (counted c t) ts us (ap tail_of e) h.1),
     )

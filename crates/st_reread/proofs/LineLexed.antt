@@ -1,14 +1,15 @@
 -- Reading lines of words: their tokens are the words.
-use Rattle.std.proofs.Common.{◌≡◌, ℕ, zero, suc, ◌+◌, ◌*◌, ◌≤◌, Bool, true, List, [], ◌∷◌, ◌++◌, length, drop, map, refl, ap, sym, ◌∙◌, subst, append_assoc, arith}
+use Rattle.std.proofs.Common.{◌≡◌, ℕ, zero, suc, ◌*◌, true, List, []}
+use Rattle.std.proofs.Common.{◌∷◌, ◌++◌, refl, ap, sym, ◌∙◌, subst, append_assoc}
 use Rattle.std.specs.Prelude.{replicate}
 use Rattle.std.specs.List.{flat_map, AllByRecursion}
 use Rattle.st_ast.specs.Lines.{Line, joined, line_text, lines_text}
 use Rattle.st_ast.specs.Words.{Word}
 use Rattle.st_lex.specs.Bytes.{is_blank}
 use Rattle.st_syntax.specs.Terminals.{Terminal}
-use Rattle.st_reread.proofs.Written.{word, is_used, IsWord, Written, wrote_none, wrote}
+use Rattle.st_reread.proofs.Written.{word, is_used, Written, wrote_none, wrote}
 use Rattle.st_reread.proofs.Fine.{Fine}
-use Rattle.st_reread.proofs.Lexed.{Lexed, Reads, at_end, after_blank, before_blank}
+use Rattle.st_reread.proofs.Lexed.{Reads, at_end, after_blank, before_blank}
 use Rattle.st_reread.proofs.StmtNodes.{words_in}
 
 -- the terminals are written as these words, which are tokens again

@@ -1,5 +1,5 @@
 -- Declarations and programs again.
-use Rattle.std.proofs.Common.{◌≡◌, ℕ, ◌+◌, List, [], ◌∷◌, ◌++◌, map, refl, ap, sym, ◌∙◌, append-nil, append_assoc}
+use Rattle.std.proofs.Common.{◌≡◌, ℕ, List, [], ◌∷◌, ◌++◌, map, refl, ap, sym, ◌∙◌, append-nil, append_assoc}
 use Rattle.std.specs.Prelude.{codes}
 use Rattle.std.specs.List.{flat_map}
 use Rattle.std.proofs.lemmas.List.{map-append}
@@ -8,23 +8,22 @@ use Rattle.st_ast.specs.declared.declarations.Field.{Field}
 use Rattle.st_ast.specs.declared.declarations.Param.{Param}
 use Rattle.st_ast.specs.declared.declarations.Pred.{Pred}
 use Rattle.st_ast.specs.declared.declarations.Proc.{Proc}
-use Rattle.st_ast.specs.declared.declarations.Program.{Program}
 use Rattle.st_ast.specs.declared.declarations.Thread.{Thread}
 use Rattle.st_ast.specs.declared.declarations.TypeName.{TypeName}
 use Rattle.st_ast.specs.declared.expressions.Expr.{Expr}
 use Rattle.st_ast.specs.declared.statements.Stmt.{Stmt}
-use Rattle.st_ast.specs.Lines.{Line, line, closing, field_line, each_field, class_lines, pred_lines, proc_lines, thread_lines, block_lines, fields_lines, pred_words, proc_words}
+use Rattle.st_ast.specs.Lines.{Line, closing, field_line, each_field, class_lines, pred_lines, proc_lines, thread_lines, block_lines, fields_lines}
 use Rattle.st_ast.specs.Words.{Word, type_word, in_parens, param_words, params_words, expr_words}
 use Rattle.st_syntax.specs.declared.sorts.Sort.TheVariants as sort
 use Rattle.st_syntax.specs.Grammar.{AreMany, AreListed, last, next, IsField, field, IsClass, class, IsParam, param, AreParams, no_params, some_params, IsPred, IsProc, IsThread}
 use Rattle.st_syntax.specs.Grammar as g
 use Rattle.st_syntax.specs.Terminals.{Terminal, Is}
 use Rattle.st_reread.specs.Placeless.{nowhere, bare_expr, bare_type, bare_stmt, bare_field, bare_class, bare_param, bare_pred, bare_proc, bare_thread}
-use Rattle.st_reread.proofs.Written.{word, blank, IsWord, Written, wrote_none, wrote, wrote_all, is_word, blank_is, name_is}
+use Rattle.st_reread.proofs.Written.{blank, IsWord, wrote_none, wrote, wrote_all, is_word, blank_is, name_is}
 use Rattle.st_reread.proofs.Again.{Again, made, handed, many_again}
 use Rattle.st_reread.proofs.ExprAgain.{expr_again}
 use Rattle.st_reread.proofs.StmtAgain.{type_again, block_again}
-use Rattle.st_reread.proofs.StmtNodes.{words_in, words_in_two, words_block}
+use Rattle.st_reread.proofs.StmtNodes.{words_in, words_in_two}
 
 named : {t : Terminal} → Is sort.Name t → IsWord t t.bytes
 named h = is_word refl h

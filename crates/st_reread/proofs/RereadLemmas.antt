@@ -39,5 +39,5 @@ module _ (p : Program) (g : IsOfGrammar p) (lexed text : List ℕ) (list tokens 
   pub same_tree : (tree : Program) → IsProgramOf text tokens tree → bare tree ≡ bare p
   same_tree tree h =
       let here : IsProgramOf (canonical_text p) back.tokens tree = subst (λ l. IsProgramOf (canonical_text p) l tree) tokens_are
-          (subst (λ t. IsProgramOf t tokens tree) second h) in
+      (subst (λ t. IsProgramOf t tokens tree) second h) in
       ap bare (one_tree (terminals_of (canonical_text p) back.tokens) tree back.tree here.spelled back.spelled.spelled) ∙ back.same

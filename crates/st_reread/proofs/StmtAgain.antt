@@ -1,5 +1,5 @@
 -- Types, values and statements again.
-use Rattle.std.proofs.Common.{◌≡◌, ℕ, ◌+◌, List, [], ◌∷◌, ◌++◌, map, Option, Some, None, refl, ap, sym, ◌∙◌, append-nil, append_assoc}
+use Rattle.std.proofs.Common.{◌≡◌, ℕ, ◌+◌, List, [], ◌∷◌, ◌++◌, map, Option, refl, ap, sym, ◌∙◌, append_assoc}
 use Rattle.std.specs.Prelude.{codes}
 use Rattle.std.proofs.lemmas.List.{map-append}
 use Rattle.st_ast.specs.declared.declarations.TypeName.{TypeName}
@@ -14,15 +14,15 @@ use Rattle.st_ast.specs.declared.statements.Value.{Value}
 use Rattle.st_ast.specs.declared.statements.Value.TheVariants as value
 use Rattle.st_ast.specs.Sites.{site_of_layer, site_of_expr}
 use Rattle.st_ast.specs.Lines.{stmt_lines, stmts_lines, block_lines}
-use Rattle.st_ast.specs.Words.{Word, type_word, in_parens, args_words, call_words, value_words, expr_words}
+use Rattle.st_ast.specs.Words.{Word, type_word, in_parens, args_words, value_words, expr_words}
 use Rattle.st_syntax.specs.declared.sorts.Sort.TheVariants as sort
 use Rattle.st_syntax.specs.Grammar.{IsPlace, of_local, of_shared, of_field, IsType, int, bool, class_name, IsValue, of_expr, new, cas, IsStmt, assigned, put, if_then, while_do, called}
 use Rattle.st_syntax.specs.Grammar.{IsElse, no_else, else_block, IsBlock, block, AreStmts, no_stmts, more_stmts}
 use Rattle.st_syntax.specs.Grammar as g
 use Rattle.st_syntax.specs.Terminals.{Terminal, Is}
 use Rattle.st_reread.specs.Placeless.{nowhere, bare_expr, bare_type, bare_value, bare_stmt}
-use Rattle.st_reread.proofs.Written.{word, blank, IsWord, Written, wrote_none, wrote, wrote_all, is_word, blank_is, name_is}
-use Rattle.st_reread.proofs.Again.{Again, made, handed}
+use Rattle.st_reread.proofs.Written.{blank, IsWord, wrote_none, wrote, wrote_all, is_word, blank_is, name_is}
+use Rattle.st_reread.proofs.Again.{Again, made}
 use Rattle.st_reread.proofs.ExprNodes as e
 use Rattle.st_reread.proofs.ExprAgain.{expr_again, args_again, place_again}
 use Rattle.st_reread.proofs.StmtNodes as n

@@ -1,5 +1,5 @@
 -- Statements without their places, and their words, node by node.
-use Rattle.std.proofs.Common.{◌≡◌, ℕ, ◌+◌, List, [], ◌∷◌, ◌++◌, map, Option, Some, None, refl, ap, sym, ◌∙◌, append-nil, append_assoc}
+use Rattle.std.proofs.Common.{◌≡◌, ℕ, ◌+◌, List, [], ◌∷◌, ◌++◌, map, Option, Some, None, ap, sym, ◌∙◌, append-nil}
 use Rattle.std.specs.Prelude.{codes}
 use Rattle.std.specs.List.{flat_map}
 use Rattle.std.proofs.lemmas.Grind.{flat_map-append}
@@ -13,7 +13,7 @@ use Rattle.st_ast.specs.declared.statements.Stmt.TheOpen.{Stmt-F}
 use Rattle.st_ast.specs.declared.statements.Stmt.TheVariants as stmt
 use Rattle.st_ast.specs.declared.statements.Stmt.TheViews.{roll-Stmt}
 use Rattle.st_ast.specs.declared.statements.Value.{Value}
-use Rattle.st_ast.specs.Lines.{Line, line, closing, in_block, else_lines, stmt_lines, stmts_lines, block_lines}
+use Rattle.st_ast.specs.Lines.{Line, line, closing, in_block, stmt_lines, stmts_lines, block_lines}
 use Rattle.st_ast.specs.Words.{Word, type_word, in_parens, call_words, value_words, expr_words}
 use Rattle.st_ast.proofs.WordEquations.{lines_of_layer}
 use Rattle.st_reread.specs.Placeless.{nowhere, bare_expr, bare_type, bare_value, stmt_layer, bare_stmt}
@@ -33,7 +33,8 @@ bare_of_layer : (x : Stmt-F Stmt) → bare_stmt (roll-Stmt x) ≡ stmt_layer (ma
 unfolding bare_stmt
 bare_of_layer x = fold-roll-Stmt Stmt stmt_layer x
 
-pub bare_var : (name : List ℕ) (name_site : Site) (kind : TypeName) (value : Value) (site : Site) → bare_stmt (stmt.Var name name_site kind value site) ≡ stmt.Var name nowhere (bare_type kind) (bare_value value) nowhere
+pub bare_var : (name : List ℕ) (name_site : Site) (kind : TypeName) (value : Value) (site : Site)
+    → bare_stmt (stmt.Var name name_site kind value site) ≡ stmt.Var name nowhere (bare_type kind) (bare_value value) nowhere
 bare_var name name_site kind value site = ap bare_stmt (sym (stmt.rolls-Var name name_site kind value site)) ∙ bare_of_layer (Stmt-F.Var name name_site kind value site)
 
 pub bare_assign : (name : List ℕ) (value : Value) (site : Site) → bare_stmt (stmt.Assign name value site) ≡ stmt.Assign name (bare_value value) nowhere
@@ -42,7 +43,8 @@ bare_assign name value site = ap bare_stmt (sym (stmt.rolls-Assign name value si
 pub bare_put : (place : Expr) (value : Value) (site : Site) → bare_stmt (stmt.Put place value site) ≡ stmt.Put (bare_expr place) (bare_value value) nowhere
 bare_put place value site = ap bare_stmt (sym (stmt.rolls-Put place value site)) ∙ bare_of_layer (Stmt-F.Put place value site)
 
-pub bare_if : (cond : Expr) (then : List Stmt) (other : Option (List Stmt)) (site : Site) → bare_stmt (stmt.If cond then other site) ≡ stmt.If (bare_expr cond) (map bare_stmt then) (bare_other other) nowhere
+pub bare_if : (cond : Expr) (then : List Stmt) (other : Option (List Stmt)) (site : Site)
+    → bare_stmt (stmt.If cond then other site) ≡ stmt.If (bare_expr cond) (map bare_stmt then) (bare_other other) nowhere
 bare_if cond then None site = ap bare_stmt (sym (stmt.rolls-If cond then None site)) ∙ bare_of_layer (Stmt-F.If cond then None site)
 bare_if cond then (Some body) site = ap bare_stmt (sym (stmt.rolls-If cond then (Some body) site)) ∙ bare_of_layer (Stmt-F.If cond then (Some body) site)
 
@@ -55,17 +57,21 @@ bare_call name args site = ap bare_stmt (sym (stmt.rolls-Call name args site)) �
 pub bare_check : (body : Expr) (site : Site) → bare_stmt (stmt.Check body site) ≡ stmt.Check (bare_expr body) nowhere
 bare_check body site = ap bare_stmt (sym (stmt.rolls-Check body site)) ∙ bare_of_layer (Stmt-F.Check body site)
 
-pub words_var : (name : List ℕ) (name_site : Site) (kind : TypeName) (value : Value) (site : Site) (depth : ℕ) → words_in (stmt_lines (stmt.Var name name_site kind value site) depth) ≡ (codes "var" ∷ name ∷ codes ":" ∷ type_word kind ∷ codes "=" ∷ value_words value) ++ codes ";" ∷ []
+pub words_var : (name : List ℕ) (name_site : Site) (kind : TypeName) (value : Value) (site : Site) (depth : ℕ)
+    → words_in (stmt_lines (stmt.Var name name_site kind value site) depth)
+    ≡ (codes "var" ∷ name ∷ codes ":" ∷ type_word kind ∷ codes "=" ∷ value_words value) ++ codes ";" ∷ []
 words_var name name_site kind value site depth =
     ap (λ s. words_in (stmt_lines s depth)) (sym (stmt.rolls-Var name name_site kind value site)) ∙ ap words_in (lines_of_layer (Stmt-F.Var name name_site kind value site) depth)
     ∙ append-nil ((codes "var" ∷ name ∷ codes ":" ∷ type_word kind ∷ codes "=" ∷ value_words value) ++ codes ";" ∷ [])
 
-pub words_assign : (name : List ℕ) (value : Value) (site : Site) (depth : ℕ) → words_in (stmt_lines (stmt.Assign name value site) depth) ≡ (name ∷ codes "=" ∷ value_words value) ++ codes ";" ∷ []
+pub words_assign : (name : List ℕ) (value : Value) (site : Site) (depth : ℕ)
+    → words_in (stmt_lines (stmt.Assign name value site) depth) ≡ (name ∷ codes "=" ∷ value_words value) ++ codes ";" ∷ []
 words_assign name value site depth =
     ap (λ s. words_in (stmt_lines s depth)) (sym (stmt.rolls-Assign name value site)) ∙ ap words_in (lines_of_layer (Stmt-F.Assign name value site) depth)
     ∙ append-nil ((name ∷ codes "=" ∷ value_words value) ++ codes ";" ∷ [])
 
-pub words_put : (place : Expr) (value : Value) (site : Site) (depth : ℕ) → words_in (stmt_lines (stmt.Put place value site) depth) ≡ (expr_words place ++ codes "=" ∷ value_words value) ++ codes ";" ∷ []
+pub words_put : (place : Expr) (value : Value) (site : Site) (depth : ℕ)
+    → words_in (stmt_lines (stmt.Put place value site) depth) ≡ (expr_words place ++ codes "=" ∷ value_words value) ++ codes ";" ∷ []
 words_put place value site depth =
     ap (λ s. words_in (stmt_lines s depth)) (sym (stmt.rolls-Put place value site)) ∙ ap words_in (lines_of_layer (Stmt-F.Put place value site) depth)
     ∙ append-nil ((expr_words place ++ codes "=" ∷ value_words value) ++ codes ";" ∷ [])

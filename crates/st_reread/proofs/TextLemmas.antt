@@ -1,13 +1,9 @@
 -- Whether terminals are a text of the grammar depends on their sorts alone.
-use Rattle.std.proofs.Common.{◌≡◌, Bool, true, List, [], ◌∷◌, ◌++◌, map, Option, Some, None, refl, ap, sym, ◌∙◌, subst}
-use Rattle.std.specs.Prelude.{option_map}
+use Rattle.std.proofs.Common.{◌≡◌, List, [], ◌∷◌, map, Option, Some, None, refl, ap, ◌∙◌}
 use Rattle.st_ast.specs.declared.declarations.Program.{Program}
-use Rattle.st_grammar.specs.Texts.{IsText}
-use Rattle.st_grammar.specs.Charts.{Symbol, Grammar, Faults, whole, left_over, ends, fits, misfits, goes, stuck, choice_at, sort_of_next, choice_of}
-use Rattle.st_reading.proofs.Chart as chart
+use Rattle.st_grammar.specs.Charts.{Symbol, Grammar, Faults, whole, left_over, ends, fits, misfits, goes, stuck, choice_at, sort_of_next}
 use Rattle.st_reading.proofs.Chart.{grammar}
 use Rattle.st_reading.proofs.Exact.{spelled_is_text, text_is_spelled}
-use Rattle.st_syntax.specs.declared.sorts.Sort.{Sort}
 use Rattle.st_syntax.specs.Grammar.{Parses}
 use Rattle.st_syntax.specs.Terminals.{Terminal}
 

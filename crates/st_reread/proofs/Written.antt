@@ -1,10 +1,8 @@
 -- Terminals as the canonical text writes them.
-use Rattle.std.proofs.Common.{◌≡◌, ℕ, ℤ, Bool, true, false, List, [], ◌∷◌, ◌++◌, map, Option, Some, None, refl, ap, sym, ◌∙◌, subst}
+use Rattle.std.proofs.Common.{◌≡◌, ℕ, ℤ, Bool, true, false, List, [], ◌∷◌, ◌++◌, Option, Some, None, refl, ap, ◌∙◌}
 use Rattle.std.specs.Prelude.{codes}
 use Rattle.std.specs.Fmt.{signed_decimal}
-use Rattle.st_events.specs.declared.events.Site.{Site}
 use Rattle.st_ast.specs.declared.operators.Op.{Op}
-use Rattle.st_ast.specs.declared.operators.Op.TheVariants as op
 use Rattle.st_ast.specs.Words.{Word, op_word}
 use Rattle.st_syntax.specs.declared.operators.Chain.{Chain}
 use Rattle.st_syntax.specs.declared.operators.Chain.TheVariants as chain

@@ -6,3 +6,8 @@ mod rereading;
 
 pub use laws::canonical_text_reads_back;
 pub use rereading::reread;
+
+#[cfg(test)]
+mod sources;
+#[cfg(test)]
+mod tests;

@@ -1,6 +1,5 @@
 use Rattle.std.proofs.Common.{Err, ◌∙◌, ap, refl}
 use Rattle.st_lex.specs.declared.errors.Fault.TheVariants as fault
-use Rattle.st_parse.specs.declared.errors.ParseError.TheVariants as error
 use Rattle.st_reread.proofs.RereadLemmas.{no_fault, no_error, same_tree}
 use Rattle.st_reread.proofs.rereading.reread.Goals as goal
 
