@@ -12,8 +12,10 @@ pub mod OutcomeLemmas
 pub mod PredicateLemmas
 pub mod RoutineLemmas
 pub mod ScopeLemmas
+pub mod ShapeLemmas
 pub mod StepEquations
 pub mod TallyLemmas
 pub mod TypedEquations
+pub mod TypedLemmas
 pub mod WalkLemmas
 pub mod WeightLemmas

@@ -6,7 +6,7 @@ use Rattle.std.proofs.lemmas.List.{length-map, map-append, take_more}
 use Rattle.st_ast.specs.declared.declarations.Program.{Program}
 use Rattle.st_events.specs.declared.shapes.TheConstants.{MOST_CHECKS}
 use Rattle.st_program.specs.Terms.{Predicate}
-use Rattle.st_program.specs.Views.{predicate_of, routine_of, check_of}
+use Rattle.st_program.specs.Views.{predicate_of, routine_of}
 use Rattle.st_program.specs.declared.programs.Body.{Body}
 use Rattle.st_program.specs.declared.programs.Pred.{Pred}
 use Rattle.st_types.specs.declared.checking.Bodies.{Bodies}
@@ -22,7 +22,6 @@ use Rattle.st_types.specs.Rules.{each_with_earlier, class_faults, fields_faults,
 use Rattle.st_types.specs.Rules.{walk_routines, walk_proc, walk_thread, walked_procs, walked_threads}
 use Rattle.st_types.specs.Statements.{Launched}
 use Rattle.st_types.specs.Tallies.{Tally, all_of}
-use Rattle.st_types.specs.TypedPrograms.{IsTyped}
 use Rattle.st_types.specs.Walks.{launched_of}
 use Rattle.st_types.proofs.CheckedLemmas.{no_faults, value_is, fails_too, first_of_more}
 use Rattle.st_types.proofs.RoutineLemmas.{CountsChecks, procs_count, threads_count}
@@ -199,30 +198,6 @@ first_fault [] a (NotPure at) h = cc
 first_fault (x ∷ faults) a (NotPure at) h = (faults, ap (λ y. y ∷ faults) (let same : x ≡ NotPure at = cc in same))
 first_fault [] a (NotHere at) h = cc
 first_fault (x ∷ faults) a (NotHere at) h = (faults, ap (λ y. y ∷ faults) (let same : x ≡ NotHere at = cc in same))
-
-few_in : (p : Program) (n : Numbered) → IsWithinLimits p → resolved_of p ≡ resolved_at n → length n.resolved.checks ≤ MOST_CHECKS
-unfolding resolution
-few_in p n h same =
-    omega (
-      arith,
-      few_checks p h,
-      length-map (walked_threads p).checks (λ (l : Launched). l.check),
-      length-map n.resolved.checks check_of,
-      ap (λ (w : Whole). length w.program.checks) same,
-    )
-
--- where no fault is told, the tree is typed
-pub typed_is : (p : Program) (n : Numbered) → IsWithinLimits p → verdict (faults_of p) (resolved_of p) ≡ Ok (resolved_at n)
-    → IsTyped (record { program = p; resolved = n.resolved; shape = n.shape })
-typed_is p n h k =
-    let same : resolved_of p ≡ resolved_at n = value_is (faults_of p) (resolved_of p) (resolved_at n) k in
-    record {
-      limits = h;
-      rules = no_faults (faults_of p) (resolved_of p) (resolved_at n) k;
-      resolves = ap (λ (w : Whole). w.program) (sym same);
-      shapes = ap (λ (w : Whole). w.shape) (sym same);
-      few_checks = few_in p n h same;
-    }
 
 -- an answer that is no typed program
 pub nothing_given : {A : Type 0} (P : A → Type 0) (result : Checked A) (e : TypeError) → IsErrAnd result (λ x. x ≡ e) → IfOk result P

@@ -2,6 +2,7 @@
 use Rattle.std.specs.Prelude.{◌≡◌, ◌≤◌, [], length}
 use Rattle.st_events.specs.declared.shapes.TheConstants.{MOST_CHECKS}
 use Rattle.st_events.specs.Shape.{ShapeLists}
+use Rattle.st_events.specs.Shape as shapes
 use Rattle.st_ast.specs.declared.declarations.Program.{Program}
 use Rattle.st_program.specs.Views.{program_of}
 use Rattle.st_program.specs.declared.programs.Resolved.{Resolved}
@@ -19,5 +20,6 @@ pub record IsTyped (t : TypedView) : Type 0 where
   pub limits : IsWithinLimits t.program
   pub rules : faults_of t.program ≡ []
   pub resolves : program_of t.resolved ≡ resolution t.program
-  pub shapes : t.shape ≡ shape_of t.program
+  pub shaped : t.shape ≡ shape_of t.program
   pub few_checks : length t.resolved.checks ≤ MOST_CHECKS
+  pub fits : shapes.IsWithinLimits t.shape

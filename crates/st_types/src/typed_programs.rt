@@ -1,6 +1,10 @@
 //! A program whose types were checked.
-ghost use Rattle.std.specs.Prelude.{◌≡◌, ◌<◌, ◌≤◌, length, slice_get, Some, option_map};
-ghost use Rattle.st_types.specs.TypedPrograms.{TypedView, IsTyped};
+ghost use Rattle.std.specs.Prelude.{◌≡◌, ◌<◌, ◌≤◌, [], length, slice_get, Some, option_map};
+ghost use Rattle.st_events.specs.Shape as shapes;
+ghost use Rattle.st_program.specs.Views.{program_of};
+ghost use Rattle.st_types.specs.Limits.{IsWithinLimits};
+ghost use Rattle.st_types.specs.Rules.{faults_of, resolution, shape_of};
+ghost use Rattle.st_types.specs.TypedPrograms.{IsTyped};
 
 use st_ast::Program;
 use st_events::{MOST_CHECKS, MOST_MUTATORS, Shape, Site};
@@ -55,21 +59,26 @@ impl Typed {
 
     /// The shape of the program.
     pub fn shape(&self) -> &Shape
-        ensures { result.now ≡ self.now.shape }
+        ensures shape { result.now ≡ self.now.shape }
+        ensures of_tree { self.now.shape ≡ shape_of self.now.program }
+        ensures fits { shapes.IsWithinLimits self.now.shape }
     {
         &self.shape
     }
 
-    /// The tree.
+    /// The tree. It is within the limits and keeps every rule.
     pub fn program(&self) -> &Program
-        ensures { result.now ≡ self.now.program }
+        ensures program { result.now ≡ self.now.program }
+        ensures limits { IsWithinLimits self.now.program }
+        ensures rules { faults_of self.now.program ≡ [] }
     {
         &self.program
     }
 
     /// The program with numbers in the place of names.
     pub fn resolved(&self) -> &Resolved
-        ensures { result.now ≡ self.now.resolved }
+        ensures resolved { result.now ≡ self.now.resolved }
+        ensures of_tree { program_of self.now.resolved ≡ resolution self.now.program }
     {
         &self.resolved
     }

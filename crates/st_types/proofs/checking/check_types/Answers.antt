@@ -3,7 +3,8 @@ use Rattle.st_types.specs.Rules.{faults_of}
 use Rattle.std.proofs.Common.{ap}
 use Rattle.st_types.specs.TypedPrograms.{TypedView}
 use Rattle.st_types.proofs.CheckedLemmas.{no_faults}
-use Rattle.st_types.proofs.OutcomeLemmas.{first_told, nothing_given, typed_is}
+use Rattle.st_types.proofs.OutcomeLemmas.{first_told, nothing_given}
+use Rattle.st_types.proofs.TypedLemmas.{typed_is}
 use Rattle.st_types.proofs.checking.check_types.Goals as goal
 
 pub make-requires : goal.make-requires
