@@ -1,0 +1,5 @@
+-- The definitions that contracts cite.
+pub mod Checks
+pub mod Counts
+pub mod Report
+pub mod Status

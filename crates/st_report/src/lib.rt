@@ -1,0 +1,14 @@
+//! What a run writes: its report, the same as JSON, and the status that it ends with.
+#![tactic(auto)]
+
+mod checks;
+mod reports;
+mod statuses;
+mod tallies;
+#[cfg(test)]
+mod tests;
+
+pub use reports::report;
+pub use statuses::{
+    STATUS_CHECK_FAILS, STATUS_HOLDS, STATUS_UNDECIDED, STATUS_UNFINISHED, run_status,
+};
