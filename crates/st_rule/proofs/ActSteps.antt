@@ -31,12 +31,12 @@ use Rattle.st_rule.specs.Draws.{MayLock, MayUnlock, HasInHand, AwaitsField, Awai
 use Rattle.st_rule.specs.Holding.{Holds, IsNext, IsSetting, IsMaking, holding, shown_stamp, word_loaded}
 use Rattle.st_rule.specs.Board.{stays_loaded}
 use Rattle.st_rule.specs.Parts.{Sits, HasLoaded, ObjectPart}
-use Rattle.st_rule.specs.Plays.{Seated, Becomes, Learns, Locks}
+use Rattle.st_rule.specs.Plays.{Seated, Becomes, Learns, LoadsBoard, Locks}
 use Rattle.st_rule.specs.Rule.{Told, Moment, HoldsAt, IsSoundTable, world_of}
 use Rattle.st_rule.specs.Turns.{looked_last, board_loaded, locked_at, locked, unlocked, field_found, word_written, with_field, with_written, landed}
 use Rattle.st_rule.proofs.BoardLemmas.{plan_fits, load_displays, same_name_self}
 use Rattle.st_rule.proofs.ViewLemmas.{mut_is, at_here, at_else}
-use Rattle.st_rule.proofs.ReachLemmas.{may_stand, holder_fits, fresh_header}
+use Rattle.st_rule.proofs.ReachLemmas.{may_stand, holder_fits, fresh_header, epoch_short}
 use Rattle.st_rule.proofs.PackedLemmas.{packed_halves}
 use Rattle.st_rule.proofs.TurnLemmas.{StaysSeated, LeavesBoard}
 use Rattle.st_rule.proofs.LoadedLemmas.{headers_fleet, classes_fleet, fields_fleet, written_quiet, same_loaded}
@@ -79,7 +79,7 @@ module _ (told : Told) (slots id : ℕ) (me : Seated) (v : MutView) (is : me.0 �
       here false other e = h.loaded_part.loaded id v sits name has keeps' found e
 
   -- board load
-  pub board_load_keeps : (word : ℕ) → Allows (IsSoundTable told) slots id me word (λ n. n) (Becomes (board_loaded word) me)
+  pub board_load_keeps : (word : ℕ) → Allows (IsSoundTable told) slots id me word (λ n. n) (LoadsBoard word me)
   board_load_keeps word s sound wide at_id _ =
       let sits : Sits s.views id (Mut v) = at_id ∙ ap some is in
       let m = sound.0 in
@@ -92,7 +92,13 @@ module _ (told : Told) (slots id : ℕ) (me : Seated) (v : MutView) (is : me.0 �
         still_keeps told id v m s.words s.views h sits w (stays_of v w refl refl refl refl refl) refl (inl refl) (more_loaded m s.words s.views h sits word) refl
             (record { words = set s.words word found; homes = s.homes; views = set s.views id (Mut w) }) refl
             (load_displays (plan_of told.terms.sizes) s.words m.board word h.displayed),
-        becomes (board_loaded word) me v found is,
+        record {
+          becomes = becomes (board_loaded word) me v found is;
+          epoch = λ u e place.
+              let same = mut_is v u (sym is ∙ e) in
+              let here = place ∙ (λ i. word_of (plan_of (((λ k. (sym same k).terms) ∙ h.seating.told id v sits) i).sizes) EpochWord) in
+              subst (λ k. k < 2 ^ 32) (sym (found_is told id v m s.words s.views h sits word EpochWord here tt)) (epoch_short told id v m s.words s.views h sits);
+        },
       )
 
   -- a step of a holder on one object

@@ -43,6 +43,7 @@ use Rattle.st_rule.proofs.GateSteps.{learns, found_is, store_fits, journal_legal
 use Rattle.st_rule.proofs.LoadedLemmas.{written_else}
 use Rattle.st_rule.proofs.PackedLemmas.{high_packed, low_packed, clock_sum}
 use Rattle.st_rule.proofs.PrefixLemmas.{prefix_self, prefix_trans}
+use Rattle.st_rule.proofs.ReachLemmas.{journal_short}
 use Rattle.st_rule.proofs.TurnLemmas.{StaysPut, joined_still, still_gone, seating_after}
 use Rattle.st_rule.proofs.ViewLemmas.{set_there, sits_once, mut_is, gone_is_no_mutator, all_set, all_mut_set, at_here, at_else}
 
@@ -130,11 +131,7 @@ module _ (told : Told) (id : ℕ) (v : MutView) (m : Moment) (words : List ℕ) 
 
   -- the length of the journal, and the clock
   short : length m.journal + 1 < 2 ^ 32
-  short =
-      let paid = h.journal_part.paid in
-      let most = below_most told.terms.sizes.mutators told.terms.sizes.events m.journal h.journal_part.charged in
-      let bound : told.terms.sizes.mutators * told.terms.sizes.events ≤ 8 * 1048576 = mul-le-mul h.limits.mutators h.limits.events.1 in
-      omega (arith, paid, most, bound)
+  short = journal_short told id v m words views h sits
 
   abbrev pub new_clock : ℕ
   new_clock = packed (high_half (m.board ClockWord) + 1) (low_half (m.board ClockWord) + copies_of copy)
@@ -179,7 +176,7 @@ module _ (told : Told) (id : ℕ) (v : MutView) (m : Moment) (words : List ℕ) 
     legal = one_more_is_legal told.terms.shape told.terms.sizes m.journal event h.journal_part.legal (legal_next told id v m words views h sits event copy may event may.suits);
     prefixes = all_set (λ j u. IsPrefix (seen_by u) journal') views id (Mut w) (prefix_self journal')
         (λ j u differs there. prefix_trans (seen_by u) m.journal journal' (h.journal_part.prefixes j u there) longer_prefix);
-    seen_whole = (id, Mut w, set_there views id (Mut v) (Mut w) sits, refl);
+    seen_whole = (id, w, set_there views id (Mut v) (Mut w) sits, refl);
     tickets = high_packed (high_half (m.board ClockWord) + 1) (low_half (m.board ClockWord) + copies_of copy) low_fits
         ∙ ap (λ k. k + 1) h.journal_part.tickets ∙ sym (one_longer m.journal event);
     copies_drawn =

@@ -77,10 +77,20 @@ module _ (told : Told) (id : ℕ) (v : MutView) (other : ℕ) (u : MutView) (m :
     prefixes = all_set (λ j x. IsPrefix (seen_by x) m.journal) (set views id (Mut b)) other Gone (prefix_empty m.journal)
         (λ j x not_other there. all_set (λ j x. IsPrefix (seen_by x) m.journal) views id (Mut b) lists.within (λ j x not_id at_j. h.journal_part.prefixes j x at_j) j x there);
     seen_whole = let whole = h.journal_part.seen_whole in dite (ℕ_discrete whole.0 id)
-        (λ same. (id, Mut b, both_sit, whole_seen (inl (sym whole.3 ∙ ap seen_by (sits_once views id whole.1 (Mut v) (subst (λ k. Sits views k whole.1) same whole.2) sits)))))
+        (λ same. (
+          id,
+          b,
+          both_sit,
+          whole_seen (inl (sym whole.3 ∙ ap seen_by (sits_once views id (Mut whole.1) (Mut v) (subst (λ k. Sits views k (Mut whole.1)) same whole.2) sits))),
+        ))
         (λ not_id. dite (ℕ_discrete whole.0 other)
-        (λ same. (id, Mut b, both_sit, whole_seen (inr (sym whole.3 ∙ ap seen_by (sits_once views other whole.1 (Mut u) (subst (λ k. Sits views k whole.1) same whole.2) sits')))))
-        (λ not_other. (whole.0, whole.1, still_sits whole.0 whole.1 not_id not_other whole.2, whole.3)));
+        (λ same. (
+          id,
+          b,
+          both_sit,
+          whole_seen (inr (sym whole.3 ∙ ap seen_by (sits_once views other (Mut whole.1) (Mut u) (subst (λ k. Sits views k (Mut whole.1)) same whole.2) sits'))),
+        ))
+        (λ not_other. (whole.0, whole.1, still_sits whole.0 (Mut whole.1) not_id not_other whole.2, whole.3)));
     tickets = h.journal_part.tickets;
     copies_drawn = h.journal_part.copies_drawn;
     own = all_join (λ j x. own_entries x.gate.number 0 m.journal ≡ x.journal.entries) (h.journal_part.own id v sits) (λ j x not_id not_other there. h.journal_part.own j x there);

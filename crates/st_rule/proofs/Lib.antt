@@ -20,5 +20,6 @@ pub mod ObjectSeats
 pub mod MainLemmas
 pub mod SplitLemmas
 pub mod JoinLemmas
+pub mod EndLemmas
 pub mod StartLemmas
 pub mod WordLemmas

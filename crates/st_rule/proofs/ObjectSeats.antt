@@ -7,7 +7,7 @@ use Rattle.std.proofs.lemmas.List.Elements.{filter-append}
 use mathlib.Core.List.{IsPrefix}
 use Rattle.atomic_table.specs.Table.{State, Allows}
 use Rattle.st_layout.specs.declared.plans.Plan.{Plan}
-use Rattle.st_layout.specs.Names.{HeaderWord, FieldWord, cells_of}
+use Rattle.st_layout.specs.Names.{EpochWord, HeaderWord, FieldWord, cells_of}
 use Rattle.st_layout.specs.Layout.{word_of, first_cell}
 use Rattle.st_layout.specs.Packed.{packed, high_half}
 use Rattle.st_events.specs.declared.events.Event.{Event}
@@ -23,9 +23,9 @@ use Rattle.st_rule.specs.declared.views.View.TheVariants.{Mut}
 use Rattle.st_rule.specs.Board.{plan_of}
 use Rattle.st_rule.specs.Draws.{MayDraw, MayLock, HasInHand, Suits, IsNextOf, drew, with_flight}
 use Rattle.st_rule.specs.Entries.{own_entries, charge_of, charge_of_all, news_of, news_among, charge_spent, objects_made, whole_charge, whole_region}
-use Rattle.st_rule.specs.Plays.{Seated, Becomes, Learns, Finds, FindsAndLearns, Locks, LocksWhere, FindsField, FindsLock, Draws, FindsAndDraws}
+use Rattle.st_rule.specs.Plays.{Seated, Becomes, Learns, Finds, FindsAndLearns, LoadsBoard, FindsBoard, Locks, LocksWhere, FindsField, FindsLock, Draws, FindsAndDraws}
 use Rattle.st_rule.specs.SeatValue.{IsFairView, KeepsSeat}
-use Rattle.st_rule.specs.Turns.{looked_last, locked, locked_at, unlocked, field_found, word_written, with_field, with_written, object_of_header, field_of_word}
+use Rattle.st_rule.specs.Turns.{looked_last, board_loaded, locked, locked_at, unlocked, field_found, word_written, with_field, with_written, object_of_header, field_of_word}
 use Rattle.st_rule.specs.Views.{mutator_of}
 use mir.Val.{bool_byte}
 use Rattle.st_rule.proofs.DrawSteps.{copies_of}
@@ -160,6 +160,14 @@ module _ {before : Seated} {number spare room capacity : ℕ} {entries : List En
         let stays = steady w refl refl refl in
         seat_kept keeps w (learns.view v is) learns.slots stays
         (fair_after v w stays keeps.fair (learns.legal v is) (learns.own v is) (held_same v w refl keeps.fair))
+
+    -- board load, as contracts see it
+    pub board_found : (place word : ℕ) → LoadsBoard place before word after → (old : MutView) → v ≡ old → FindsBoard place old (mutator_of after.0)
+    board_found place word loads old same = record {
+      word = word;
+      view = ap mutator_of (loads.becomes.view v is) ∙ ap (board_loaded place word) same;
+      epoch = λ here. loads.epoch v is (here ∙ ap (λ (x : MutView). word_of (plan_of x.terms.sizes) EpochWord) (sym same));
+    }
 
     -- lock, as contracts see it
     pub lock_found : (object stamp word : ℕ) → Locks object stamp before word after → (old : MutView) → v ≡ old → FindsLock object stamp old (mutator_of after.0)

@@ -1,10 +1,11 @@
 -- From what a seat has seen of the heap to what the heap is: objects that it may lock, and its next one.
 use Rattle.std.proofs.Common.{◌≡◌, ◌≢◌, ℕ, zero, suc, ◌+◌, ◌*◌, ◌^◌, ◌<◌, ◌≤◌, ◌⊎◌, List, [], ◌++◌, Option, Some, None, sym, refl, ap, subst}
-use Rattle.std.proofs.Common.{◌∙◌, arith, ⊎_elim, inl, inr, suc-mul}
+use Rattle.std.proofs.Common.{◌∙◌, arith, ⊎_elim, inl, inr, suc-mul, mul-le-mul, length, filter, ◌∷◌, Bool, true, false, if◌then◌else◌}
 use Rattle.std.proofs.Math.Nat.{mul-le-mul_right}
 use Rattle.std.specs.Prelude.{IsSome}
 use mathlib.Core.List.{IsPrefix}
-use Rattle.st_layout.specs.Names.{HeaderWord, cells_of}
+use Rattle.st_layout.specs.Names.{EpochWord, HeaderWord, cells_of}
+use Rattle.st_events.specs.History.{is_launch}
 use Rattle.st_layout.specs.Packed.{packed}
 use Rattle.st_layout.specs.declared.words.TheConstants.{FIXED_CELLS}
 use Rattle.st_events.specs.declared.events.Event.{Event}
@@ -16,7 +17,7 @@ use Rattle.st_events.specs.Shape.{ShapeLists, IsWithinLimits}
 use Rattle.st_events.specs.Sizes.{AreWithinLimits}
 use Rattle.st_events.specs.Sound.{IsSoundWorld, AreRegions, IsMade, Extends}
 use Rattle.st_events.specs.World.{World, world_after}
-use Rattle.st_events.proofs.CountLemmas.{made_counts_news}
+use Rattle.st_events.proofs.CountLemmas.{made_counts_news, epoch_counts_launches}
 use Rattle.st_events.proofs.ExtendsLemmas.{heap_extends}
 use Rattle.st_events.proofs.SoundLemmas.{legal_is_sound}
 use Rattle.st_rule.specs.declared.views.Held.{Held}
@@ -32,7 +33,7 @@ use Rattle.st_rule.specs.Holding.{Holds, IsNext, holding, shown_stamp}
 use Rattle.st_rule.specs.Parts.{Sits}
 use Rattle.st_rule.specs.Rule.{Told, Moment, HoldsAt, world_of}
 use Rattle.st_rule.specs.SeatValue.{IsFairView}
-use Rattle.st_rule.proofs.EntryLemmas.{news_are}
+use Rattle.st_rule.proofs.EntryLemmas.{news_are, below_most}
 
 some_object : (x : Option Object) → IsSome x → (y : Object) × (x ≡ Some y)
 some_object None some = absurd cc
@@ -48,6 +49,15 @@ still_there earlier later o extends some =
     let x = some_object (earlier o) some in
     let y = extends.object o x.0 x.1 in
     subst (λ (z : Option Object). IsSome z) (sym y.1) refl
+
+-- no more events pass a test than there are
+passing_are_fewer : {A : Type 0} (p : A → Bool) (xs : List A) → length (filter p xs) ≤ length xs
+passing_are_fewer p [] = omega arith
+passing_are_fewer p (x ∷ xs) = cases (passing_are_fewer p xs) (p x)
+  where
+    cases : length (filter p xs) ≤ length xs → (b : Bool) → length (if b then x ∷ filter p xs else filter p xs) ≤ length (x ∷ xs)
+    cases rest true = omega (arith, rest)
+    cases rest false = omega (arith, rest)
 
 -- ---- regions
 
@@ -112,6 +122,21 @@ module _ (told : Told) (id : ℕ) (v : MutView) (m : Moment) (words : List ℕ) 
 
   pub sound : IsSoundWorld told.terms.shape told.terms.sizes world
   sound = legal_is_sound told.terms.shape told.terms.sizes h.shape_limits m.journal h.journal_part.legal
+
+  -- the journal is short, since each event was paid for
+  pub journal_short : length m.journal + 1 < 2 ^ 32
+  journal_short =
+      let paid = h.journal_part.paid in
+      let most = below_most told.terms.sizes.mutators told.terms.sizes.events m.journal h.journal_part.charged in
+      let bound : told.terms.sizes.mutators * told.terms.sizes.events ≤ 8 * 1048576 = mul-le-mul h.limits.mutators h.limits.events.1 in
+      omega (arith, paid, most, bound)
+
+  -- and so is the epoch
+  pub epoch_short : m.board EpochWord < 2 ^ 32
+  epoch_short =
+      let counts = epoch_counts_launches told.terms.shape told.terms.sizes m.journal in
+      let few = passing_are_fewer is_launch m.journal in
+      omega (arith, h.board_part.epoch_is, counts, few, journal_short)
 
   -- the heap that the seat has seen goes on to the heap
   pub seen_extends : Extends (heap_seen v) world.heap

@@ -117,8 +117,8 @@ module _ (told : Told) (id : ℕ) (v : MutView) (m : Moment) (words : List ℕ) 
         (λ new. subst (λ x. IsPrefix (seen_by x) m.journal) new.1 (h.journal_part.prefixes id (Mut v) sits))
         (at_end (set views id (Mut l)) (Mut r) x j there);
     seen_whole = let whole = h.journal_part.seen_whole in dite (ℕ_discrete whole.0 id)
-        (λ same. (id, Mut l, left_sits, ap seen_by (sits_once views id (Mut v) whole.1 sits (subst (λ k. Sits views k whole.1) same whole.2)) ∙ whole.3))
-        (λ other. (whole.0, whole.1, still_sits whole.0 whole.1 other whole.2, whole.3));
+        (λ same. (id, l, left_sits, ap seen_by (sits_once views id (Mut v) (Mut whole.1) sits (subst (λ k. Sits views k (Mut whole.1)) same whole.2)) ∙ whole.3))
+        (λ other. (whole.0, whole.1, still_sits whole.0 (Mut whole.1) other whole.2, whole.3));
     tickets = h.journal_part.tickets;
     copies_drawn = h.journal_part.copies_drawn;
     own = all_split (λ j u. own_entries u.gate.number 0 m.journal ≡ u.journal.entries) (h.journal_part.own id v sits) no_events (λ j u other there. h.journal_part.own j u there);

@@ -101,7 +101,7 @@ module _ (told : Told) (fits : AreWithinLimits told.terms.sizes) (shape_fits : I
       journal_part = record {
         legal = nothing_legal told.terms.shape told.terms.sizes;
         prefixes = only_one (λ id x. IsPrefix (seen_by x) []) (Mut v) (prefix_self []);
-        seen_whole = (0, Mut v, refl, refl);
+        seen_whole = (0, v, refl, refl);
         tickets = omega arith;
         copies_drawn = omega arith;
         own = only_mut (λ id u. own_entries u.gate.number 0 [] ≡ u.journal.entries) v refl;

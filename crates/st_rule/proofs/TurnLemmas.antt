@@ -151,14 +151,14 @@ module _ (told : Told) (m : Moment) (words : List ℕ) (views : List View) (h : 
         seen
 
     -- some view has still seen the whole journal
-    seen_whole_after : (j : ℕ) × (u : View) × Sits views' j u × (seen_by u ≡ m.journal)
+    seen_whole_after : (j : ℕ) × (u : MutView) × Sits views' j (Mut u) × (u.journal.seen ≡ m.journal)
     seen_whole_after = let whole = h.journal_part.seen_whole in dite (ℕ_discrete whole.0 id)
         (λ same. (
           id,
-          Mut w,
+          w,
           set_there views id (Mut v) (Mut w) sits,
           ⊎_elim
-              (λ kept. kept ∙ ap seen_by (sits_once views id (Mut v) whole.1 sits (subst (λ k. Sits views k whole.1) same whole.2)) ∙ whole.3)
+              (λ kept. kept ∙ ap seen_by (sits_once views id (Mut v) (Mut whole.1) sits (subst (λ k. Sits views k (Mut whole.1)) same whole.2)) ∙ whole.3)
               (λ all. all)
               seen,
         ))

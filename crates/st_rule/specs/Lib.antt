@@ -6,6 +6,7 @@ pub mod Turns
 pub mod Draws
 pub mod Parts
 pub mod Rule
+pub mod Ends
 pub mod Keys
 pub mod Plays
 pub mod SeatValue

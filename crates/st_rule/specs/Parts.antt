@@ -38,8 +38,8 @@ pub record JournalPart (terms : Terms) (journal : List Event) (clock split : ℕ
   pub legal : IsLegal terms.shape terms.sizes journal
   -- what each view has seen is a prefix of it
   pub prefixes : (id : ℕ) (view : View) → Sits views id view → IsPrefix (seen_by view) journal
-  -- some view has seen it whole, so it is the longest
-  pub seen_whole : (id : ℕ) × (view : View) × Sits views id view × (seen_by view ≡ journal)
+  -- some mutator's view has seen it whole, so it is the longest
+  pub seen_whole : (id : ℕ) × (v : MutView) × Sits views id (Mut v) × (v.journal.seen ≡ journal)
   -- the clock's ticket part is its length
   pub tickets : high_half clock ≡ length journal
   -- and the copy part is at most that

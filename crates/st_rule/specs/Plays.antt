@@ -1,5 +1,5 @@
 -- What a step tells its seat: the view afterwards, by the view before and the word found.
-use Rattle.std.specs.Prelude.{◌≡◌, ℕ, List, [], ◌∷◌, ◌++◌, length, Some}
+use Rattle.std.specs.Prelude.{◌≡◌, ℕ, ◌^◌, ◌<◌, List, [], ◌∷◌, ◌++◌, length, Some}
 use mathlib.Core.List.{IsPrefix}
 use Rattle.atomic_table.specs.Table.{Me}
 use Rattle.st_events.specs.declared.events.Event.{Event}
@@ -7,12 +7,14 @@ use Rattle.st_events.specs.Legal.{IsLegal}
 use Rattle.st_rule.specs.declared.views.MutView.{MutView}
 use Rattle.st_rule.specs.declared.views.View.{View}
 use Rattle.st_rule.specs.declared.views.View.TheVariants.{Mut}
+use Rattle.st_layout.specs.Layout.{word_of}
+use Rattle.st_layout.specs.Names.{EpochWord}
 use Rattle.st_layout.specs.Packed.{high_half}
 use Rattle.st_rule.specs.Draws.{drew, IsNextOf}
 use Rattle.st_rule.specs.Entries.{own_entries}
 use Rattle.st_rule.specs.Board.{plan_of}
 use Rattle.st_rule.specs.declared.views.Held.{Held}
-use Rattle.st_rule.specs.Turns.{locked, field_found, object_of_header, field_of_word}
+use Rattle.st_rule.specs.Turns.{locked, board_loaded, field_found, object_of_header, field_of_word}
 
 -- a seat and its view; no seat of this table holds a slot
 abbrev pub Seated : Type 0
@@ -32,6 +34,11 @@ pub record Learns (change : ℕ → List Event → MutView → MutView) (before 
   pub legal : (v : MutView) → before.0 ≡ Mut v → IsLegal v.terms.shape v.terms.sizes seen
   pub own : (v : MutView) → before.0 ≡ Mut v → own_entries v.gate.number 0 seen ≡ v.journal.entries
   pub slots : after.1 ≡ before.1
+
+-- board load: the word was found, and where it is the epoch it is a half of a header
+pub record LoadsBoard (place : ℕ) (before : Seated) (word : ℕ) (after : Seated) : Type 0 where
+  pub becomes : Becomes (board_loaded place) before word after
+  pub epoch : (v : MutView) → before.0 ≡ Mut v → place ≡ word_of (plan_of v.terms.sizes) EpochWord → word < 2 ^ 32
 
 -- lock: the header was found, and where the object is the next one of the seat's region, that was 0
 pub record Locks (object stamp : ℕ) (before : Seated) (word : ℕ) (after : Seated) : Type 0 where
@@ -67,6 +74,12 @@ pub record FindsAndLearns (change : ℕ → List Event → MutView → MutView) 
   pub goes_on : IsPrefix before.journal.seen seen
   pub legal : IsLegal before.terms.shape before.terms.sizes seen
   pub own : own_entries before.gate.number 0 seen ≡ before.journal.entries
+
+-- board load, as contracts see it: the word was found, and where it is the epoch it is a half of a header
+pub record FindsBoard (place : ℕ) (before after : MutView) : Type 0 where
+  pub word : ℕ
+  pub view : after ≡ board_loaded place word before
+  pub epoch : place ≡ word_of (plan_of before.terms.sizes) EpochWord → word < 2 ^ 32
 
 -- lock, as contracts see it: the header was found, and where the object is the next one of the seat's region, that was 0
 pub record FindsLock (object stamp : ℕ) (before after : MutView) : Type 0 where

@@ -1,16 +1,64 @@
 //! The end of a table.
-ghost use Rattle.std.specs.Prelude.{◌≡◌};
+ghost use Rattle.std.specs.Prelude.{◌≡◌, length};
 ghost use Rattle.st_rule.specs.declared.views.Phase.TheVariants.{Outside};
-ghost use Rattle.st_rule.specs.Seats.{IsSeatOf, IsMain, HasJoinedAll};
+ghost use Rattle.st_rule.specs.Ends.{IsHistoryOf, HasLogs, HasAllFree};
+ghost use Rattle.st_rule.specs.Views.{mutator_of};
+ghost use Rattle.st_rule.specs.Seats.{IsSeatOf, IsMain, HasJoinedAll, terms_of, told_of};
 
 use crate::seats::MutSeat;
 use crate::tables::Shared;
+use crate::views::View;
+use atomic_table::Seat;
 use st_events::Judge;
+use st_layout::{hi, lo};
+use std::marker::Model;
+use std::snapshot::Snapshot;
 
-/// What is left of a table. Only `close` makes one. It tells nothing yet.
-#[derive(Debug, Drop)]
+/// What is left of a table. Only `close` makes one. Contracts see it as the journal of the table at its close, its history, and the
+/// number of its free copies.
+#[derive(Drop)]
 pub struct Closed {
-    closed: (),
+    free: u32,
+    events: u32,
+    /// The main thread's seat, of which only proofs keep a picture: it has seen the history.
+    main: Snapshot<Seat<(), View>>,
+}
+
+impl Model for Closed {
+    ghost use Rattle.std.specs.Prelude.{◌≡◌, length};
+    ghost use Rattle.st_rule.specs.Ends.{ClosedValue};
+    ghost use Rattle.st_rule.specs.Views.{mutator_of};
+
+    ghost Value = { ClosedValue };
+
+    ghost view = { λ c. record { history = (mutator_of c.main.value.me.0).journal.seen; free = c.free } };
+
+    ghost invariant = { λ c. c.events ≡ length (mutator_of c.main.value.me.0).journal.seen };
+}
+
+impl Closed {
+    /// How many copies were free.
+    pub fn free(&self) -> u32
+        ensures { result ≡ self.now.free }
+    {
+        self.free
+    }
+
+    /// How many events the history has.
+    pub fn events(&self) -> u32
+        ensures { result ≡ length self.now.history }
+    {
+        self.events
+    }
+
+    /// A table that was closed.
+    fn of(free: u32, events: u32, main: Snapshot<Seat<(), View>>) -> Closed
+        requires { events ≡ length (mutator_of main.value.me.0).journal.seen }
+        ensures history { result.history ≡ (mutator_of main.value.me.0).journal.seen }
+        ensures free { result.free ≡ free }
+    {
+        Closed { free, events, main }
+    }
 }
 
 impl<J: Judge> Shared<J> {
@@ -20,10 +68,31 @@ impl<J: Judge> Shared<J> {
         requires main { IsMain main }
         requires phase { main.view.gate.phase ≡ Outside }
         requires joined { HasJoinedAll main.view }
+        ensures seen { result.history ≡ main.view.journal.seen }
+        ensures history { IsHistoryOf (told_of J.meant J.right self) result.history }
+        ensures logs { HasLogs result.history main.view.hands.joined }
+        ensures free { HasAllFree (terms_of J.meant self) result }
     {
-        let Shared { table, .. } = self;
+        let Shared { table, plan, .. } = self;
         let (seat, _log) = main.into_parts();
-        table.close_with(seat).free();
-        Closed { closed: () }
+        let picture = Snapshot::of(&seat);
+        let closed = table.close_with(seat);
+        let clock = closed.word(plan.clock_word() as usize);
+        let available = closed.word(plan.available_word() as usize);
+        closed.free();
+        let free = free_copies(available, lo(clock), plan.copies);
+        Closed::of(free, hi(clock) as u32, picture)
+    }
+}
+
+/// How many copies are free, where so many were free and so many were drawn since: at most all.
+fn free_copies(available: u64, drawn: u64, copies: u32) -> u32
+    ensures { available ≡ copies → drawn ≡ 0 → result ≡ copies }
+{
+    let left = available.saturating_sub(drawn);
+    if left < u64::from(copies) {
+        left as u32
+    } else {
+        copies
     }
 }

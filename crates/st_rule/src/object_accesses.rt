@@ -16,9 +16,9 @@ ghost use Rattle.st_events.specs.declared.events.Event.{Event};
 ghost use Rattle.st_rule.specs.declared.views.Phase.TheVariants.{Inside};
 ghost use Rattle.st_rule.specs.Draws.{MayLock, MayUnlock, HasInHand, AwaitsField, AwaitsClass, MayDraw, MayLoadBoard};
 ghost use Rattle.st_rule.specs.Entries.{news_of};
-ghost use Rattle.st_rule.specs.Plays.{Finds, FindsAndLearns, FindsLock, FindsAndDraws};
+ghost use Rattle.st_rule.specs.Plays.{Finds, FindsAndLearns, FindsBoard, FindsLock, FindsAndDraws};
 ghost use Rattle.st_rule.specs.Seats.{IsSeatOf, IsSameSeat, IsFair, HoldsNothing};
-ghost use Rattle.st_rule.specs.Turns.{looked_last, board_loaded, unlocked, field_found, word_written};
+ghost use Rattle.st_rule.specs.Turns.{looked_last, unlocked, field_found, word_written};
 
 use crate::plays::{BoardLoad, Draw, Drawn, FieldLoad, LastLook, Lock, Unlock, WordStore};
 use crate::seats::MutSeat;
@@ -46,7 +46,7 @@ impl<J: Judge> Shared<J> {
         requires board { MayLoadBoard seat.old.view word }
         ensures seat { IsSameSeat seat.old seat.new }
         ensures fair { IsFair seat.new }
-        ensures view { Finds (board_loaded word) seat.old.view seat.new.view }
+        ensures view { FindsBoard word seat.old.view seat.new.view }
         ensures found { seat.new.view.tally.found ≡ Some result }
     {
         self.table

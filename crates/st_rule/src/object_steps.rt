@@ -7,9 +7,9 @@ ghost use Rattle.st_layout.specs.declared.limits.TheConstants.{MOST_FIELDS};
 ghost use Rattle.st_layout.specs.Packed.{packed, high_half, low_half};
 ghost use Rattle.st_rule.specs.declared.views.Phase.TheVariants.{Inside, Outside};
 ghost use Rattle.st_rule.specs.Draws.{MayLock, MayUnlock, HasInHand, AwaitsField, AwaitsClass, MayDraw, MayLoadBoard};
-ghost use Rattle.st_rule.specs.Plays.{Finds, FindsAndLearns, FindsLock, FindsAndDraws};
+ghost use Rattle.st_rule.specs.Plays.{Finds, FindsAndLearns, FindsBoard, FindsLock, FindsAndDraws};
 ghost use Rattle.st_rule.specs.Seats.{IsSeatOf, IsSameSeat, IsFair, HoldsNothing};
-ghost use Rattle.st_rule.specs.Turns.{looked_last, board_loaded, unlocked, field_found, word_written};
+ghost use Rattle.st_rule.specs.Turns.{looked_last, unlocked, field_found, word_written};
 
 use crate::seats::MutSeat;
 use crate::tables::Shared;
@@ -31,13 +31,13 @@ impl<J: Judge> Shared<J> {
     }
 
     /// Board load: a load of the epoch word, a lane word, the available word or a free word by a seat that is inside, or of any word by
-    /// one that is alone.
+    /// one that is alone. An epoch is below 2^32.
     pub fn board_load(&self, seat: &mut MutSeat<J>, word: u32) -> u64
         requires table { IsSeatOf J.meant self.now seat.old }
         requires board { MayLoadBoard seat.old.view word }
         ensures seat { IsSameSeat seat.old seat.new }
         ensures fair { IsFair seat.new }
-        ensures view { Finds (board_loaded word) seat.old.view seat.new.view }
+        ensures view { FindsBoard word seat.old.view seat.new.view }
         ensures found { seat.new.view.tally.found ≡ Some result }
     {
         self.load_board(seat, word)

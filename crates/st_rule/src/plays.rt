@@ -3,9 +3,9 @@ ghost use Rattle.std.specs.Prelude.{[]};
 ghost use Rattle.st_events.specs.declared.events.Event.{Event};
 ghost use Rattle.st_events.specs.declared.events.Event.TheVariants.{Retire};
 ghost use Rattle.st_layout.specs.Packed.{high_half};
-ghost use Rattle.st_rule.specs.Plays.{Becomes, Learns, LocksWhere, FindsField, Draws};
+ghost use Rattle.st_rule.specs.Plays.{Becomes, Learns, LoadsBoard, LocksWhere, FindsField, Draws};
 ghost use Rattle.st_rule.specs.Turns.{flagged_in, looked, flagged_out, took_gate, saw, gave_gate, number_of_flag};
-ghost use Rattle.st_rule.specs.Turns.{looked_last, board_loaded, unlocked, word_written};
+ghost use Rattle.st_rule.specs.Turns.{looked_last, unlocked, word_written};
 
 use crate::views::View;
 use atomic_table::Play;
@@ -64,7 +64,7 @@ impl Play<(), View> for LastLook {
 pub struct BoardLoad;
 
 impl Play<(), View> for BoardLoad {
-    ghost then = { λ step before word after. Becomes (board_loaded step.word) before word after };
+    ghost then = { λ step before word after. LoadsBoard step.word before word after };
 }
 
 /// Lock object. Which object it is, the word's number tells, and the stamp stands in the word that is expected.

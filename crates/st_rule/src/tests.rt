@@ -96,7 +96,8 @@ fn in_and_out<J: Judge, R: Abort>(
     assert!(rt; found_open);
     assert!(rt; shared.join_mut(&mut main, one).entries().is_empty());
     assert!(rt; shared.join_mut(&mut main, two).entries().is_empty());
-    shared.close(main);
+    let closed = shared.close(main);
+    assert_eq!(rt; (closed.free(), closed.events()), (3, 0));
     Ok(())
 }
 

@@ -6,7 +6,8 @@ use Rattle.st_rule.specs.Keys.{told_by}
 use Rattle.st_rule.specs.Turns.{board_loaded}
 use Rattle.st_rule.specs.Views.{mutator_of}
 use Rattle.st_rule.proofs.ActSteps.{board_load_keeps}
-use Rattle.st_rule.proofs.SeatLemmas.{kept_at, changed_at}
+use Rattle.st_rule.proofs.SeatLemmas.{kept_at}
+use Rattle.st_rule.proofs.ObjectSeats.{board_found}
 use Rattle.st_rule.proofs.tables.Shared.load_board.Goals as goal
 
 pub load-requires : goal.load-requires
@@ -22,15 +23,15 @@ load-requires g c =
     )
 
 pub invariant_of-seat : goal.invariant_of-seat
-invariant_of-seat g c = kept_at c.seat.invariant (board_loaded c.args.word) c.load.result c.load.ensures.2 (record { terms = refl; number = refl; entries = refl }) refl refl
+invariant_of-seat g c = kept_at c.seat.invariant (board_loaded c.args.word) c.load.result c.load.ensures.2.becomes (record { terms = refl; number = refl; entries = refl }) refl refl
 
 pub returns-clause-fair : goal.returns-clause-fair
 returns-clause-fair g c = (invariant_of-seat g c).fair
 
 pub returns-clause-view : goal.returns-clause-view
-returns-clause-view g c = changed_at c.seat.invariant (board_loaded c.args.word) c.load.result c.load.ensures.2 c.args.seat.now.view (ap (λ s. s.view) c.seat.view_is)
+returns-clause-view g c = board_found c.seat.invariant c.args.word c.load.result c.load.ensures.2 c.args.seat.now.view (ap (λ s. s.view) c.seat.view_is)
 
 pub returns-clause-found : goal.returns-clause-found
 returns-clause-found g c =
-    let view = c.load.ensures.2.view (mutator_of c.seat.inside.seat.me.0) (ap (λ m. m.0) c.seat.invariant.mutator) in
+    let view = c.load.ensures.2.becomes.view (mutator_of c.seat.inside.seat.me.0) (ap (λ m. m.0) c.seat.invariant.mutator) in
     (ap (λ v. (mutator_of v).tally.found) view)

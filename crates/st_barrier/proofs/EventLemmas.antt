@@ -1,0 +1,315 @@
+-- A draw with what follows it is one event; what a seat may draw before a call it may draw once it holds the object.
+use Rattle.std.proofs.Common.{◌≡◌, ◌≢◌, ℕ, ◌+◌, ◌<◌, ◌≤◌, ◌==◌, Bool, true, false, if◌then◌else◌, List, [], ◌∷◌, ◌++◌, length, Option, Some}
+use Rattle.std.proofs.Common.{None, sym, refl, ap, subst, ◌∙◌, arith, eq-eqb}
+use Rattle.std.specs.Prelude.{IsSome}
+use mathlib.Core.List.{IsPrefix}
+use Rattle.st_layout.specs.Layout.{word_of}
+use Rattle.st_layout.specs.Names.{EpochWord}
+use Rattle.st_layout.specs.Packed.{high_half}
+use Rattle.st_events.specs.declared.events.Event.{Event}
+use Rattle.st_events.specs.declared.events.Event.TheVariants.{New, Load, Store, Cas, Launch, Retire}
+use Rattle.st_events.specs.Heap.{Heap, word_at}
+use Rattle.st_events.specs.History.{heap_after, epoch_of}
+use Rattle.st_events.specs.Legal.{IsLegal, fits_cell, is_word}
+use Rattle.st_events.specs.World.{world_after}
+use Rattle.st_events.proofs.LegalLemmas.{each_is_legal}
+use Rattle.st_events.proofs.LegalEvents.{legal_load, legal_cas}
+use Rattle.st_rule.specs.declared.views.Flight.{Flight}
+use Rattle.st_rule.specs.declared.views.Held.{Held}
+use Rattle.st_rule.specs.declared.views.JournalView.{JournalView}
+use Rattle.st_rule.specs.declared.views.LoadedField.{LoadedField}
+use Rattle.st_rule.specs.declared.views.MutView.{MutView}
+use Rattle.st_rule.specs.declared.views.Phase.TheVariants.{Inside}
+use Rattle.st_rule.specs.declared.views.Terms.{Terms}
+use Rattle.st_rule.specs.Board.{plan_of}
+use Rattle.st_rule.specs.Draws.{MayDraw, MayUnlock, MayNew, HasInHand, AwaitsField, AwaitsClass, Suits, IsNextOf, heap_seen, drew, with_flight, left_in_flight}
+use Rattle.st_rule.specs.Entries.{charge_of, charge_of_all, charge_spent, objects_made, next_of}
+use Rattle.st_rule.specs.Holding.{IsSetting, IsMaking, field_loaded, word_loaded}
+use Rattle.st_rule.specs.Plays.{FindsAndDraws}
+use Rattle.st_rule.specs.SeatValue.{SeatValue}
+use Rattle.st_rule.specs.Seats.{IsSameSeat}
+use Rattle.st_rule.specs.Turns.{word_written, with_written, landed}
+use Rattle.st_rule.proofs.EntryLemmas.{entry, charge_more}
+use Rattle.st_barrier.specs.Calls.{MayCall, HasCell, FitsCell, MakesEvent, heap_before, Loads, Compares}
+use Rattle.st_barrier.specs.Hands.{StaysAs, HasLoadedFields, HoldsQuietly, HasEpoch, IsPlain}
+use Rattle.st_barrier.proofs.HandLemmas.{stays_then, heap_same}
+
+-- ---- one event
+
+cost_is : (v : MutView) (h : Held) (e : Event) → Suits v h e → charge_of e ≡ 1
+cost_is v h (New m obj class) s = refl
+cost_is v h (Load m obj field value) s = refl
+cost_is v h (Store m obj field value) s = refl
+cost_is v h (Cas m obj field expect value done) s = refl
+cost_is v h (Launch m site n args) s = absurd s
+cost_is v h (Retire m n) s = absurd s
+
+module _ (before mid : SeatValue) (event : Event) (may : MayDraw before.view event false) (same : IsSameSeat before mid) (draws : FindsAndDraws event before.view mid.view) where
+  -- the draw, and then what leaves the list and the entries
+  pub event_made : (after : SeatValue) → StaysAs mid after → MakesEvent event before after
+  event_made after stays =
+      let view = draws.finds.view in
+      let terms : after.view.terms ≡ before.view.terms = stays.terms ∙ ap (λ (v : MutView). v.terms) view in
+      let entries : after.view.journal.entries ≡ before.view.journal.entries ++ entry (length draws.finds.seen) event ∷ [] =
+      ap (λ (j : JournalView). j.entries) stays.journal ∙ ap (λ (v : MutView). v.journal.entries) view
+      ∙ ap (λ t. before.view.journal.entries ++ entry t event ∷ []) draws.ticket in
+      record {
+        past = draws.finds.seen;
+        goes_on = draws.finds.goes_on;
+        seen = ap (λ (j : JournalView). j.seen) stays.journal ∙ ap (λ (v : MutView). v.journal.seen) view;
+        legal = subst (λ (t : Terms). IsLegal t.shape t.sizes (draws.finds.seen ++ event ∷ [])) (sym terms) draws.legal;
+        entries = entries;
+        spare = ap charge_of_all entries ∙ charge_more before.view.journal.entries (length draws.finds.seen) event
+            ∙ ap (λ k. charge_spent before.view + k) (cost_is before.view may.hand event may.suits);
+        terms = terms;
+        gate = stays.gate ∙ ap (λ (v : MutView). v.gate) view;
+        hands = stays.hands ∙ ap (λ (v : MutView). v.hands) view;
+        table = stays.table ∙ same.table;
+        id = stays.id ∙ same.id;
+      }
+
+  abbrev heap : Heap
+  heap = heap_after before.view.terms.shape before.view.terms.sizes draws.finds.seen
+
+  hand_after : mid.view.held ≡ with_flight (left_in_flight heap event) before.view.held
+  hand_after = ap (λ (v : MutView). v.held) draws.finds.view
+
+  -- an event that changes nothing leaves nothing in flight
+  pub note_unlocks : (obj stamp : ℕ) → HoldsQuietly obj stamp before → IsPlain event → MayUnlock mid.view obj stamp
+  note_unlocks obj stamp quiet plain =
+      let hand : Held = record { object = obj; stamp = stamp; loaded = quiet.loaded; flight = None } in
+      let held : mid.view.held ≡ Some (record { object = obj; stamp = stamp; loaded = quiet.loaded; flight = None }) =
+      hand_after ∙ (λ i. with_flight (plain heap i) (quiet.held i)) in
+      record {
+        has = record { hand = record { object = obj; stamp = stamp; loaded = quiet.loaded; flight = None }; held = held; object_is = refl };
+        found = λ none. refl;
+        written = λ x flies. absurd cc;
+        epoch = λ x flies. absurd cc;
+      }
+
+  -- a change or a New is in flight
+  module _ (obj : ℕ) (has : HasInHand before.view obj) (x : Flight) (leaves : left_in_flight heap event ≡ Some x) where
+    abbrev flown : Held
+    flown = record has.hand { flight = Some x }
+
+    flown_held : mid.view.held ≡ Some (record has.hand { flight = Some x })
+    flown_held = hand_after ∙ (λ i. with_flight (leaves i) (has.held i))
+
+    pub awaits_field : (field value : ℕ) → IsSetting x.event field value → AwaitsField mid.view obj field value
+    awaits_field field value sets = record {
+      has = record { hand = record has.hand { flight = Some x }; held = flown_held; object_is = has.object_is };
+      flight = x;
+      flies = refl;
+      sets = sets;
+    }
+
+    pub awaits_class : (class : ℕ) → IsMaking x.event class → AwaitsClass mid.view obj class
+    awaits_class class making = record {
+      has = record { hand = record has.hand { flight = Some x }; held = flown_held; object_is = has.object_is };
+      flight = x;
+      flies = refl;
+      making = making;
+    }
+
+    -- once its word is written, the header may get the epoch
+    pub written_unlocks : (epoch : ℕ) → HasEpoch epoch before → (after : SeatValue) → after.view ≡ word_written mid.view → MayUnlock after.view obj epoch
+    written_unlocks epoch known after view =
+        let held : after.view.held ≡ Some (record has.hand { loaded = []; flight = Some (record x { written = true }) }) =
+        ap (λ (v : MutView). v.held) view ∙ ap with_written flown_held in
+        let epoch_there : HasEpoch epoch after =
+        (λ i. word_loaded (ap (λ (v : MutView). v.board) (view ∙ ap word_written draws.finds.view) i).loaded
+        (word_of (plan_of (ap (λ (v : MutView). v.terms) (view ∙ ap word_written draws.finds.view) i).sizes) EpochWord)) ∙ known in
+        record {
+          has = record { hand = record has.hand { loaded = []; flight = Some (record x { written = true }) }; held = held; object_is = has.object_is };
+          found = λ none. absurd cc;
+          written = λ y flies. let e : record x { written = true } ≡ y = cc flies in ap (λ (z : Flight). z.written) (sym e);
+          epoch = λ y flies. epoch_there;
+        }
+
+-- an event that sets a field leaves itself in flight
+pub setting_flies : (h : Heap) (e : Event) (f word : ℕ) → IsSetting e f word → (x : Flight) × (left_in_flight h e ≡ Some x) × (x.event ≡ e)
+setting_flies h (New m obj class) f word s = absurd s
+setting_flies h (Load m obj field value) f word s = absurd s
+setting_flies h (Store m obj field value) f word s = (_, refl, refl)
+setting_flies h (Cas m obj field expect value true) f word s = (_, refl, refl)
+setting_flies h (Cas m obj field expect value false) f word s = absurd (let e : false ≡ true = s.2 in cc)
+setting_flies h (Launch m site number args) f word s = absurd s
+setting_flies h (Retire m number) f word s = absurd s
+
+pub making_flies : (h : Heap) (e : Event) (c : ℕ) → IsMaking e c → (x : Flight) × (left_in_flight h e ≡ Some x) × (x.event ≡ e)
+making_flies h (New m obj class) c s = (_, refl, refl)
+making_flies h (Load m obj field value) c s = absurd s
+making_flies h (Store m obj field value) c s = absurd s
+making_flies h (Cas m obj field expect value done) c s = absurd s
+making_flies h (Launch m site number args) c s = absurd s
+making_flies h (Retire m number) c s = absurd s
+
+-- ---- what a seat may draw
+
+-- charge, objects made and heap seen are by the list and the entries alone
+spent_same : (a b : SeatValue) → StaysAs a b → charge_spent b.view ≡ charge_spent a.view
+spent_same a b stays = ap (λ (j : JournalView). charge_of_all j.entries) stays.journal
+
+module _ (a b : SeatValue) (stays : StaysAs a b) where
+  number_is : b.view.gate.number ≡ a.view.gate.number
+  number_is = ap (λ g. g.number) stays.gate
+
+  cell_stays : (obj f : ℕ) → IsSome (word_at (heap_seen a.view) obj f) → IsSome (word_at (heap_seen b.view) obj f)
+  cell_stays obj f cell = subst (λ (h : Heap). IsSome (word_at h obj f)) (sym (heap_same a b stays)) cell
+
+  kind_stays : (obj f word : ℕ) → fits_cell a.view.terms.shape (heap_seen a.view) obj f word ≡ true → fits_cell b.view.terms.shape (heap_seen b.view) obj f word ≡ true
+  kind_stays obj f word kind = subst (λ (t : Terms × Heap). fits_cell t.0.shape t.1 obj f word ≡ true) (λ i. (sym stays.terms i, sym (heap_same a b stays) i)) kind
+
+  next_stays : (obj : ℕ) → IsNextOf a.view obj → IsNextOf b.view obj
+  next_stays obj next = record {
+    object_is = next.object_is ∙ (λ i. next_of (record b.view { terms = sym stays.terms i; gate = sym stays.gate i; journal = sym stays.journal i }));
+    room = subst (λ (t : Terms × JournalView). objects_made (record b.view { journal = t.1 }) < t.0.sizes.objects) (λ i. (sym stays.terms i, sym stays.journal i)) next.room;
+    mutator = subst (λ (t : ℕ × Terms). t.0 < t.1.sizes.mutators) (λ i. (sym number_is i, sym stays.terms i)) next.mutator;
+  }
+
+  -- the same events suit the same hand
+  suits_stay : (h : Held) (e : Event) → Suits a.view h e → Suits b.view h e
+  suits_stay h (New m obj class) s = (
+    s.0 ∙ sym number_is,
+    s.1,
+    record {
+      next = next_stays obj s.2.next;
+      some_class = s.2.some_class;
+      declared = subst (λ (t : Terms). class < length t.shape.classes) (sym stays.terms) s.2.declared;
+    },
+  )
+  suits_stay h (Load m obj field value) s = (s.0 ∙ sym number_is, s.1, record { cell = cell_stays h.object field s.2.cell; loaded = s.2.loaded })
+  suits_stay h (Store m obj field value) s = (s.0 ∙ sym number_is, s.1, record { cell = cell_stays h.object field s.2.cell; kind = kind_stays h.object field value s.2.kind })
+  suits_stay h (Cas m obj field expect value done) s = (
+    s.0 ∙ sym number_is,
+    s.1,
+    record {
+      cell = cell_stays h.object field s.2.cell;
+      expected = kind_stays h.object field expect s.2.expected;
+      kind = kind_stays h.object field value s.2.kind;
+      found = s.2.found;
+      loaded = s.2.loaded;
+      answer = s.2.answer;
+    },
+  )
+  suits_stay h (Launch m site number args) s = absurd s
+  suits_stay h (Retire m number) s = absurd s
+
+  pub draw_stays : (e : Event) → b.view.held ≡ a.view.held → MayDraw a.view e false → MayDraw b.view e false
+  draw_stays e held may = record {
+    inside = ap (λ g. g.phase) stays.gate ∙ may.inside;
+    mutator = subst (λ (t : ℕ × Terms). t.0 < t.1.sizes.mutators) (λ i. (sym number_is i, sym stays.terms i)) may.mutator;
+    charge = subst (λ (t : ℕ × Terms). t.0 + charge_of e ≤ t.1.sizes.events) (λ i. (sym (spent_same a b stays) i, sym stays.terms i)) may.charge;
+    hand = may.hand;
+    held = held ∙ may.held;
+    quiet = may.quiet;
+    suits = suits_stay may.hand e may.suits;
+    copied = λ copy. absurd cc;
+  }
+
+  -- once the object is locked and its fields are loaded, the seat may draw what suits
+  pub may_draw :
+      (e : Event) (obj stamp : ℕ) (loaded : List LoadedField)
+      → a.view.gate.phase ≡ Inside → MayCall a → HasLoadedFields obj stamp loaded b
+      → charge_of e ≡ 1
+      → Suits a.view (record { object = obj; stamp = stamp; loaded = loaded; flight = None }) e
+      → MayDraw b.view e false
+  may_draw e obj stamp loaded inside call held cost suits = record {
+    inside = ap (λ g. g.phase) stays.gate ∙ inside;
+    mutator = subst (λ (t : ℕ × Terms). t.0 < t.1.sizes.mutators) (λ i. (sym number_is i, sym stays.terms i)) call.mutator;
+    charge = subst (λ (t : ℕ × Terms). t.0 + charge_of e ≤ t.1.sizes.events) (λ i. (sym (spent_same a b stays) i, sym stays.terms i))
+        (subst (λ k. charge_spent a.view + k ≤ a.view.terms.sizes.events) (sym cost) call.spare);
+    hand = record { object = obj; stamp = stamp; loaded = loaded; flight = None };
+    held = held;
+    quiet = refl;
+    suits = suits_stay (record { object = obj; stamp = stamp; loaded = loaded; flight = None }) e suits;
+    copied = λ copy. absurd cc;
+  }
+
+-- the event of a later part of a call is that of the call
+pub event_of_call : (a b c : SeatValue) (e : Event) → StaysAs a b → MakesEvent e b c → MakesEvent e a c
+event_of_call a b c e stays made = record {
+  past = made.past;
+  goes_on = subst (λ (j : JournalView). IsPrefix j.seen made.past) stays.journal made.goes_on;
+  seen = made.seen;
+  legal = made.legal;
+  entries = made.entries ∙ ap (λ (j : JournalView). j.entries ++ entry (length made.past) e ∷ []) stays.journal;
+  spare = made.spare ∙ ap (λ k. k + 1) (spent_same a b stays);
+  terms = made.terms ∙ stays.terms;
+  gate = made.gate ∙ stays.gate;
+  hands = made.hands ∙ stays.hands;
+  table = made.table ∙ stays.table;
+  id = made.id ∙ stays.id;
+}
+
+-- the value of a Load, and the answer of a Cas, are by the heap just before
+pub load_of : (a c : SeatValue) (obj f value : ℕ) → MakesEvent (Load a.view.gate.number obj f value) a c → Loads obj f value a c
+load_of a c obj f value made = record {
+  made = made;
+  word = (legal_load c.view.terms.shape c.view.terms.sizes (world_after c.view.terms.shape c.view.terms.sizes made.past) a.view.gate.number obj f value
+      (each_is_legal c.view.terms.shape c.view.terms.sizes made.past [] (Load a.view.gate.number obj f value) made.legal)).word;
+}
+
+pub cas_of : (a c : SeatValue) (obj f expect value : ℕ) (done : Bool) → MakesEvent (Cas a.view.gate.number obj f expect value done) a c → Compares obj f expect value done a c
+cas_of a c obj f expect value done made = record {
+  made = made;
+  answer = (legal_cas c.view.terms.shape c.view.terms.sizes (world_after c.view.terms.shape c.view.terms.sizes made.past) a.view.gate.number obj f expect value done
+      (each_is_legal c.view.terms.shape c.view.terms.sizes made.past [] (Cas a.view.gate.number obj f expect value done) made.legal)).answer;
+}
+
+-- ---- the four calls
+
+field_is_loaded : (f value : ℕ) → field_loaded (record { field = f; value = value } ∷ []) f ≡ Some value
+field_is_loaded f value = ap (λ b. if b then Some value else None) (eq-eqb f f refl)
+
+module _ (a b : SeatValue) (stays : StaysAs a b) (inside : a.view.gate.phase ≡ Inside) (call : MayCall a) (m : ℕ) (is_m : m ≡ a.view.gate.number) (obj stamp : ℕ) where
+  pub may_load :
+      (f value : ℕ) → HasCell a obj f → HasLoadedFields obj stamp (record { field = f; value = value } ∷ []) b
+      → MayDraw b.view (Load m obj f value) false
+  may_load f value cell held = may_draw a b stays (Load m obj f value) obj stamp (record { field = f; value = value } ∷ []) inside call held refl
+      (is_m, refl, record { cell = cell; loaded = field_is_loaded f value })
+
+  pub may_store : (f value : ℕ) → HasCell a obj f → FitsCell a obj f value → HasLoadedFields obj stamp [] b → MayDraw b.view (Store m obj f value) false
+  may_store f value cell kind held = may_draw a b stays (Store m obj f value) obj stamp [] inside call held refl (is_m, refl, record { cell = cell; kind = kind })
+
+  pub may_cas :
+      (f expect value found : ℕ) (done : Bool) → done ≡ (found == expect)
+      → HasCell a obj f → FitsCell a obj f expect → FitsCell a obj f value
+      → HasLoadedFields obj stamp (record { field = f; value = found } ∷ []) b
+      → MayDraw b.view (Cas m obj f expect value done) false
+  may_cas f expect value found done answer cell expected kind held =
+      may_draw a b stays (Cas m obj f expect value done) obj stamp (record { field = f; value = found } ∷ []) inside call held refl
+      (is_m, refl, record { cell = cell; expected = expected; kind = kind; found = found; loaded = field_is_loaded f found; answer = answer })
+
+  pub may_new :
+      (class : ℕ) → IsNextOf a.view obj → 1 ≤ class → class < length a.view.terms.shape.classes
+      → HasLoadedFields obj stamp [] b
+      → MayDraw b.view (New m obj class) false
+  may_new class next some declared held = may_draw a b stays (New m obj class) obj stamp [] inside call held refl
+      (is_m, refl, record { next = next; some_class = some; declared = declared })
+
+-- the number of the event is the seat's
+pub load_made :
+    (a b c : SeatValue) (m obj f value : ℕ) → m ≡ a.view.gate.number → StaysAs a b → MakesEvent (Load m obj f value) b c → Loads obj f value a c
+load_made a b c m obj f value is_m stays made =
+    load_of a c obj f value (subst (λ k. MakesEvent (Load k obj f value) a c) is_m (event_of_call a b c (Load m obj f value) stays made))
+
+pub store_made :
+    (a b c : SeatValue) (m obj f value : ℕ) → m ≡ a.view.gate.number → StaysAs a b → MakesEvent (Store m obj f value) b c
+    → MakesEvent (Store a.view.gate.number obj f value) a c
+store_made a b c m obj f value is_m stays made = subst (λ k. MakesEvent (Store k obj f value) a c) is_m (event_of_call a b c (Store m obj f value) stays made)
+
+pub cas_made :
+    (a b c : SeatValue) (m obj f expect value : ℕ) (done : Bool) → m ≡ a.view.gate.number → StaysAs a b → MakesEvent (Cas m obj f expect value done) b c
+    → Compares obj f expect value done a c
+cas_made a b c m obj f expect value done is_m stays made =
+    cas_of a c obj f expect value done (subst (λ k. MakesEvent (Cas k obj f expect value done) a c) is_m (event_of_call a b c (Cas m obj f expect value done) stays made))
+
+pub new_made :
+    (a b c : SeatValue) (m obj class : ℕ) → m ≡ a.view.gate.number → StaysAs a b → MakesEvent (New m obj class) b c
+    → MakesEvent (New a.view.gate.number obj class) a c
+new_made a b c m obj class is_m stays made = subst (λ k. MakesEvent (New k obj class) a c) is_m (event_of_call a b c (New m obj class) stays made)
+
+-- a Cas that is not done leaves nothing in flight
+pub undone_plain : (m obj f expect value : ℕ) (done : Bool) → done ≡ false → IsPlain (Cas m obj f expect value done)
+undone_plain m obj f expect value done undone h = subst (λ b. left_in_flight h (Cas m obj f expect value b) ≡ None) (sym undone) refl

@@ -1,0 +1,98 @@
+//! The events of a mutator that holds the object: the ticket is drawn, the word is written, and the object is given back.
+//!
+//! The order is what makes the event one step for all others: while the object is held nobody else can look at it or change it, so what is
+//! written after the draw counts as written at the draw. A store that gave the object back before its draw would let another store in
+//! between, and its ticket would come too late.
+ghost use Rattle.std.specs.Prelude.{◌≡◌, ◌<◌, false};
+ghost use Rattle.st_layout.specs.declared.limits.TheConstants.{MOST_FIELDS};
+ghost use Rattle.st_rule.specs.declared.views.Phase.TheVariants.{Inside};
+ghost use Rattle.st_rule.specs.Draws.{HasInHand, MayDraw};
+ghost use Rattle.st_rule.specs.Holding.{IsSetting, IsMaking};
+ghost use Rattle.st_rule.specs.Seats.{IsSeatOf, IsFair, HoldsNothing};
+ghost use Rattle.st_barrier.specs.Calls.{MakesEvent};
+ghost use Rattle.st_barrier.specs.Hands.{StaysAs, HoldsQuietly, HasEpoch, IsPlain};
+
+use st_events::{Event, Judge};
+use st_rule::{MutSeat, Shared};
+
+/// An event that changes nothing. The object gets back the stamp that it had.
+pub(crate) fn note<J: Judge>(
+    shared: &Shared<J>,
+    seat: &mut MutSeat<J>,
+    obj: u32,
+    stamp: u32,
+    event: Event,
+)
+    requires table { IsSeatOf J.meant shared.now seat.old }
+    requires hand { HoldsQuietly obj stamp seat.old }
+    requires event { MayDraw seat.old.view event false }
+    requires plain { IsPlain event }
+    ensures made { MakesEvent event seat.old seat.new }
+    ensures fair { IsFair seat.new }
+    ensures hand { HoldsNothing seat.new }
+{
+    shared.draw(seat, event, false);
+    shared.unlock(seat, obj, stamp);
+}
+
+/// A change of one field. The object gets the epoch as its stamp.
+pub(crate) fn change<J: Judge>(
+    shared: &Shared<J>,
+    seat: &mut MutSeat<J>,
+    obj: u32,
+    field: u8,
+    value: u64,
+    event: Event,
+)
+    requires table { IsSeatOf J.meant shared.now seat.old }
+    requires fair { IsFair seat.old }
+    requires hand { HasInHand seat.old.view obj }
+    requires event { MayDraw seat.old.view event false }
+    requires sets { IsSetting event field value }
+    requires field { field < MOST_FIELDS }
+    ensures made { MakesEvent event seat.old seat.new }
+    ensures fair { IsFair seat.new }
+    ensures hand { HoldsNothing seat.new }
+{
+    let epoch = load_epoch(shared, seat);
+    shared.draw(seat, event, false);
+    shared.field_store(seat, obj, field, value);
+    shared.unlock(seat, obj, epoch);
+}
+
+/// A New of an object of the class. The object gets the epoch as its stamp.
+pub(crate) fn make<J: Judge>(
+    shared: &Shared<J>,
+    seat: &mut MutSeat<J>,
+    obj: u32,
+    class: u8,
+    event: Event,
+)
+    requires table { IsSeatOf J.meant shared.now seat.old }
+    requires fair { IsFair seat.old }
+    requires hand { HasInHand seat.old.view obj }
+    requires event { MayDraw seat.old.view event false }
+    requires makes { IsMaking event class }
+    ensures made { MakesEvent event seat.old seat.new }
+    ensures fair { IsFair seat.new }
+    ensures hand { HoldsNothing seat.new }
+{
+    let epoch = load_epoch(shared, seat);
+    shared.draw(seat, event, false);
+    shared.class_store(seat, obj, class);
+    shared.unlock(seat, obj, epoch);
+}
+
+/// The epoch, which stays as it is while the seat is inside.
+fn load_epoch<J: Judge>(shared: &Shared<J>, seat: &mut MutSeat<J>) -> u32
+    requires table { IsSeatOf J.meant shared.now seat.old }
+    requires fair { IsFair seat.old }
+    requires phase { seat.old.view.gate.phase ≡ Inside }
+    ensures stays { StaysAs seat.old seat.new }
+    ensures fair { IsFair seat.new }
+    ensures hand { seat.new.view.held ≡ seat.old.view.held }
+    ensures epoch { HasEpoch result seat.new }
+{
+    let word = shared.plan().epoch_word();
+    shared.board_load(seat, word) as u32
+}
