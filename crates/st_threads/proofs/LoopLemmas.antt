@@ -61,7 +61,7 @@ pub one_turn_spent :
 one_turn_spent test body again locals means rest h =
     paying_spent TURN_COST means (λ spent. test locals spent (λ word left. elim (is_true word) [ true ↦ body locals left again | false ↦ rest locals left ])) (omega (arith, h))
 
-asking_same :
+pub asking_same :
     (request : Request) (means : Means) (rest other : ℕ → Means → Deed)
     → SameBelow means.charge rest other
     → asking request means rest ≡ asking request means other
@@ -80,14 +80,14 @@ evaluating_same (reads obj field next) means rest other h =
     (λ word left le. evaluating_same (next word) left rest other (λ x m le'. h x m (omega (arith, le, le'))))
 evaluating_same (uses_unit next) means rest other h = evaluating_same (next tt) means rest other h
 
-term_same : (t : Term) → LooksBelow (term_deed t)
+pub term_same : (t : Term) → LooksBelow (term_deed t)
 term_same t locals means rest other h = evaluating_same (course_of no_calls t locals) means rest other h
 
-object_same : (target : Target) → LooksBelow (object_deed target)
+pub object_same : (target : Target) → LooksBelow (object_deed target)
 object_same (to_shared field) locals means rest other h = h SHARED_OBJECT means (omega arith)
 object_same (to_field object field at) locals means rest other h = term_same object locals means rest other h
 
-target_same :
+pub target_same :
     (target : Target) (obj : ℕ) (request : ℕ → ℕ → Request) (means : Means) (rest other : ℕ → Means → Deed)
     → SameBelow means.charge rest other
     → target_deed target obj request means rest ≡ target_deed target obj request means other
@@ -96,7 +96,7 @@ target_same (to_field object field at) obj request means rest other h =
     branches_same (obj == 0) (ends (Null at)) (ends (Null at)) (asking (request obj field) means rest) (asking (request obj field) means other) refl
     (asking_same (request obj field) means rest other h)
 
-new_same :
+pub new_same :
     (class : ℕ) (at : Site) (means : Means) (rest other : ℕ → Means → Deed)
     → SameBelow means.charge rest other
     → new_deed class at means rest ≡ new_deed class at means other
@@ -107,7 +107,7 @@ new_same class at means rest other h =
     made : (ℕ → Means → Deed) → ℕ → Means → Deed
     made r obj left = r obj (record left { room = left.room - 1 })
 
-source_same : (source : Source) → LooksBelow (source_deed source)
+pub source_same : (source : Source) → LooksBelow (source_deed source)
 source_same (from_term t) locals means rest other h = term_same t locals means rest other h
 source_same (from_new class at) locals means rest other h = new_same class at means rest other h
 source_same (from_cas target expect value) locals means rest other h =

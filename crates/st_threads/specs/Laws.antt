@@ -4,7 +4,7 @@ use Rattle.st_events.specs.declared.events.Event.{Event}
 use Rattle.st_events.specs.declared.limits.Sizes.{Sizes}
 use Rattle.st_events.specs.declared.verdicts.End.{End}
 use Rattle.st_events.specs.declared.verdicts.Verdict.{Verdict}
-use Rattle.st_events.specs.History.{is_launch, is_new, objects_of}
+use Rattle.st_events.specs.History.{heap_after, own_events, is_launch, is_new, objects_of}
 use Rattle.st_events.specs.Judge.{IsJudge}
 use Rattle.st_events.specs.Legal.{IsLegal}
 use Rattle.st_events.specs.Shape.{ShapeLists, IsWithinLimits}
@@ -12,7 +12,9 @@ use Rattle.st_program.specs.Terms.{Term, a_while, Block, Program}
 use Rattle.st_threads.specs.Deeds.{Deed, Means}
 use Rattle.st_threads.specs.Statements.{term_deed, one_turn, command_deed, block_deed}
 use Rattle.st_threads.specs.Threads.{Turn, call_within, next_request, reply_of, IsAnswerTo, LeadTo, Follows}
+use Rattle.st_program.specs.WellFormed.{IsWellFormed}
 use Rattle.st_threads.specs.Right.{IsRightVerdict, IsPlain}
+use Rattle.st_threads.specs.Typed.{IsRightTurn}
 
 -- a loop is a turn, and the loop again where its condition is true
 abbrev pub LoopByTurns : Type 0
@@ -82,3 +84,12 @@ AbandonNothingWithCopies =
     → sizes.lanes * (objects_of es + 1) ≤ sizes.copies
     → IsRightVerdict shape p sizes es number verdict
     → IsPlain verdict
+
+-- what a thread of a well-formed program asks for next, after its own events in a legal journal, is legal on the journal's heap
+abbrev pub AskLegally : Type 0
+AskLegally =
+    (shape : ShapeLists) (p : Program) (sizes : Sizes) → IsWellFormed shape p
+    → (es : List Event) (thread : ℕ) (turn : Turn)
+    → IsLegal shape sizes es
+    → LeadTo p sizes thread (own_events thread es) turn
+    → IsRightTurn shape (heap_after shape sizes es) turn

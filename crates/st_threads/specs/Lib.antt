@@ -3,3 +3,4 @@ pub mod Laws
 pub mod Right
 pub mod Statements
 pub mod Threads
+pub mod Typed

@@ -2,6 +2,7 @@ use Rattle.st_threads.proofs.FollowLemmas as following
 use Rattle.st_threads.proofs.LoopLemmas as loops
 use Rattle.st_threads.proofs.MeansLemmas as means
 use Rattle.st_threads.proofs.RightLemmas as verdicts
+use Rattle.st_threads.proofs.TypedJournals as typed
 use Rattle.st_threads.proofs.laws.laws_of_threads.Goals as goal
 
 pub returns-clause-loops : goal.returns-clause-loops
@@ -21,3 +22,6 @@ returns-clause-judge c = λ shape p limits. verdicts.verdicts_make_a_judge shape
 
 pub returns-clause-pool : goal.returns-clause-pool
 returns-clause-pool c = λ shape p sizes limits es number verdict legal enough right. verdicts.copies_abandon_nothing shape p sizes limits es number verdict legal enough right
+
+pub returns-clause-legal : goal.returns-clause-legal
+returns-clause-legal c = λ shape p sizes right es thread turn legal leads. typed.threads_ask_legally shape p sizes right es thread turn legal leads

@@ -1,0 +1,13 @@
+pub mod CallLemmas
+pub mod CodeLemmas
+pub mod CommandLemmas
+pub mod CountLemmas
+pub mod EventLemmas
+pub mod FewLemmas
+pub mod LayLemmas
+pub mod LocalsLemmas
+pub mod MutatorLemmas
+pub mod ProgramLemmas
+pub mod StackLemmas
+pub mod StepLemmas
+pub mod TermLemmas

@@ -1,0 +1,6 @@
+pub mod Laying
+pub mod Mutators
+pub mod Outcomes
+pub mod Running
+pub mod Stacked
+pub mod Standing
