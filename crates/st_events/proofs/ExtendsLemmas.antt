@@ -38,7 +38,7 @@ change_extends heap obj field value = record {
   ];
 }
 
-pub next_extends :
+next_extends :
     (shape : ShapeLists) (sizes : Sizes) (w : World) (e : Event)
     → IsSoundWorld shape sizes w
     → IsLegalNext shape sizes w e

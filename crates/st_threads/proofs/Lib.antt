@@ -1,3 +1,4 @@
+mod ExtendLemmas
 pub mod Examples
 pub mod FollowLemmas
 pub mod KindLemmas

@@ -17,7 +17,7 @@ use Rattle.st_events.specs.Legal.{IsLegal, IsLegalNext, IsLegalFrom}
 use Rattle.st_events.specs.History.{is_own, own_events}
 use Rattle.st_events.specs.Legal.{have_kinds, args_fit}
 use Rattle.st_events.specs.Sound.{IsSoundWorld}
-use Rattle.st_events.proofs.ExtendsLemmas.{next_extends}
+use Rattle.st_threads.proofs.ExtendLemmas.{next_extends}
 use Rattle.st_events.proofs.KeptLemmas.{and_parts, and_both}
 use Rattle.st_events.proofs.LegalEvents.{legal_load}
 use Rattle.st_events.proofs.SoundHeap.{object_put_here}
