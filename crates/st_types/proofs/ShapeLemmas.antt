@@ -78,7 +78,7 @@ type_known p types.Int h = (kinds.Int, refl, tt)
 type_known p types.Bool h = (kinds.Bool, refl, tt)
 type_known p (types.Class name site) h = class_known p name site (class_number p name) refl h
 
-kind_declared : (p : Program) (f : Found) → IsDeclaredFound p f → IsDeclaredKind (classes_of p) (known_kind f)
+pub kind_declared : (p : Program) (f : Found) → IsDeclaredFound p f → IsDeclaredKind (classes_of p) (known_kind f)
 kind_declared p f d = subst (λ x. IsDeclaredKind (classes_of p) (known_kind x)) (sym d.1) d.2
 
 -- each declaration is without faults, after some others
@@ -127,13 +127,13 @@ all_if_any : {X : Type 0} (P : X → Type 0) (xs : List X) (i : ℕ) (o : Option
 all_if_any P xs i None a h = tt
 all_if_any P xs i (Some x) a h = (all_at P xs i x a h, tt)
 
-found_declared : (p : Program) (locals : List Local) (numbers : List ℕ) → AreDeclared p locals → AreDeclared p (locals_at locals numbers)
+pub found_declared : (p : Program) (locals : List Local) (numbers : List ℕ) → AreDeclared p locals → AreDeclared p (locals_at locals numbers)
 found_declared p locals [] a = tt
 found_declared p locals (n ∷ numbers) a =
     all_append (λ l. IsDeclaredFound p l.kind) (if_any (slice_get locals n)) (locals_at locals numbers)
     (all_if_any (λ (l : Local). IsDeclaredFound p l.kind) locals n (slice_get locals n) a refl) (found_declared p locals numbers a)
 
-kinds_declared : (p : Program) (locals : List Local) → AreDeclared p locals → AllByRecursion (IsDeclaredKind (classes_of p)) (map (λ l. known_kind l.kind) locals)
+pub kinds_declared : (p : Program) (locals : List Local) → AreDeclared p locals → AllByRecursion (IsDeclaredKind (classes_of p)) (map (λ l. known_kind l.kind) locals)
 kinds_declared p [] a = tt
 kinds_declared p (l ∷ locals) a = (kind_declared p l.kind a.0, kinds_declared p locals a.1)
 
@@ -218,7 +218,7 @@ walk_keeps p = ind-Stmt (Keeps p) (λ x y keeps.
     → IsDeclared p (walk_node p (map-Stmt Stmt (Reached → Walked) (walk p) (bare p y)) r).reached) (sym (fold-roll-Stmt Tally tally_node (bare p y)))
     (layer_keeps p y r))))
 
-statements_keep : (p : Program) (ss : List Stmt) (r : Reached) → (walk_all (map (walk p) ss) r).faults ≡ [] → (tally_all ss).names ≤ MOST_ARGS → IsDeclared p r
+pub statements_keep : (p : Program) (ss : List Stmt) (r : Reached) → (walk_all (map (walk p) ss) r).faults ≡ [] → (tally_all ss).names ≤ MOST_ARGS → IsDeclared p r
     → IsDeclared p (walk_all (map (walk p) ss) r).reached
 statements_keep p [] r h few d = d
 statements_keep p (s ∷ ss) r h few d =
@@ -226,7 +226,7 @@ statements_keep p (s ∷ ss) r h few d =
     let more = (walk_all (map (walk p) ss) first.reached).faults in
     statements_keep p ss first.reached (none_right first.faults more h) (omega (arith, few)) (walk_keeps p s r (none_left first.faults more h) (omega (arith, few)) d)
 
-params_declared : (p : Program) (params : List Param) → AllByRecursion (λ x. (e : List Param) × (param_faults p e x ≡ [])) params → AreDeclared p (param_locals p params)
+pub params_declared : (p : Program) (params : List Param) → AllByRecursion (λ x. (e : List Param) × (param_faults p e x ≡ [])) params → AreDeclared p (param_locals p params)
 params_declared p [] h = tt
 params_declared p (q ∷ params) h =
     let asked = none_right (asks_new (list_any (λ (g : Param). bytes_eq g.name q.name) h.0.0) q.site) (asks_type p q.kind) h.0.1 in
@@ -237,19 +237,19 @@ abbrev KeepsFit : {X : Type 0} → Program → (List X → List Launched → X �
 KeepsFit {X} p f t = (earlier : List X) (checks : List Launched) (x : X) → (f earlier checks x).faults ≡ [] → (t x).names ≤ MOST_ARGS → AreFitting p checks
     → AreFitting p (f earlier checks x).checks
 
-proc_keeps : (p : Program) → KeepsFit p (walk_proc p) proc_tally
+pub proc_keeps : (p : Program) → KeepsFit p (walk_proc p) proc_tally
 proc_keeps p earlier checks q h few fit =
     let body = (walk_body p q.params q.body checks).faults in
     let params = none_right (asks_new _ q.site) (params_faults p q.params) (none_left (proc_head_faults p earlier q) body h) in
     (statements_keep p q.body (record { locals = param_locals p q.params; checks = checks }) (none_right (proc_head_faults p earlier q) body h) few
     (record { locals = params_declared p q.params (each_none (param_faults p) [] q.params params); checks = fit })).checks
 
-thread_keeps : (p : Program) → KeepsFit p (walk_thread p) thread_tally
+pub thread_keeps : (p : Program) → KeepsFit p (walk_thread p) thread_tally
 thread_keeps p earlier checks t h few fit =
     let body = (walk_body p [] t.body checks).faults in
     (statements_keep p t.body (record { locals = []; checks = checks }) (none_right (asks_new _ t.site) body h) few (record { locals = tt; checks = fit })).checks
 
-routines_keep : {X : Type 0} (p : Program) (f : List X → List Launched → X → WalkedRoutine) (t : X → Tally) (earlier : List X) (checks : List Launched) (xs : List X)
+pub routines_keep : {X : Type 0} (p : Program) (f : List X → List Launched → X → WalkedRoutine) (t : X → Tally) (earlier : List X) (checks : List Launched) (xs : List X)
     → KeepsFit p f t → (walk_routines f earlier checks xs).faults ≡ [] → (all_of (map t xs)).names ≤ MOST_ARGS → AreFitting p checks
     → AreFitting p (walk_routines f earlier checks xs).checks
 routines_keep p f t earlier checks [] keep h few fit = fit

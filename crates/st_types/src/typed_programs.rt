@@ -2,6 +2,7 @@
 ghost use Rattle.std.specs.Prelude.{◌≡◌, ◌<◌, ◌≤◌, [], length, slice_get, Some, option_map};
 ghost use Rattle.st_events.specs.Shape as shapes;
 ghost use Rattle.st_program.specs.Views.{program_of};
+ghost use Rattle.st_program.specs.WellFormed.{IsWellFormed};
 ghost use Rattle.st_types.specs.Limits.{IsWithinLimits};
 ghost use Rattle.st_types.specs.Rules.{faults_of, resolution, shape_of};
 ghost use Rattle.st_types.specs.TypedPrograms.{IsTyped};
@@ -75,10 +76,11 @@ impl Typed {
         &self.program
     }
 
-    /// The program with numbers in the place of names.
+    /// The program with numbers in the place of names: each number names something, and every kind fits.
     pub fn resolved(&self) -> &Resolved
         ensures resolved { result.now ≡ self.now.resolved }
         ensures of_tree { program_of self.now.resolved ≡ resolution self.now.program }
+        ensures well_formed { IsWellFormed self.now.shape (program_of self.now.resolved) }
     {
         &self.resolved
     }
