@@ -1,16 +1,15 @@
 -- A draw with what follows it is one event; what a seat may draw before a call it may draw once it holds the object.
-use Rattle.std.proofs.Common.{◌≡◌, ◌≢◌, ℕ, ◌+◌, ◌<◌, ◌≤◌, ◌==◌, Bool, true, false, if◌then◌else◌, List, [], ◌∷◌, ◌++◌, length, Option, Some}
-use Rattle.std.proofs.Common.{None, sym, refl, ap, subst, ◌∙◌, arith, eq-eqb}
-use Rattle.std.specs.Prelude.{IsSome}
+use Rattle.std.proofs.Common.{◌≡◌, ℕ, ◌+◌, ◌<◌, ◌≤◌, ◌==◌, Bool, true, false, if◌then◌else◌, List, [], ◌∷◌, ◌++◌, length, Some}
+use Rattle.std.proofs.Common.{None, sym, refl, ap, subst, ◌∙◌, eq-eqb}
+use Rattle.std.specs.Prelude.{IsSome, MatchBool}
 use mathlib.Core.List.{IsPrefix}
 use Rattle.st_layout.specs.Layout.{word_of}
 use Rattle.st_layout.specs.Names.{EpochWord}
-use Rattle.st_layout.specs.Packed.{high_half}
 use Rattle.st_events.specs.declared.events.Event.{Event}
 use Rattle.st_events.specs.declared.events.Event.TheVariants.{New, Load, Store, Cas, Launch, Retire}
 use Rattle.st_events.specs.Heap.{Heap, word_at}
-use Rattle.st_events.specs.History.{heap_after, epoch_of}
-use Rattle.st_events.specs.Legal.{IsLegal, fits_cell, is_word}
+use Rattle.st_events.specs.History.{heap_after}
+use Rattle.st_events.specs.Legal.{IsLegal, fits_cell}
 use Rattle.st_events.specs.World.{world_after}
 use Rattle.st_events.proofs.LegalLemmas.{each_is_legal}
 use Rattle.st_events.proofs.LegalEvents.{legal_load, legal_cas}
@@ -22,17 +21,35 @@ use Rattle.st_rule.specs.declared.views.MutView.{MutView}
 use Rattle.st_rule.specs.declared.views.Phase.TheVariants.{Inside}
 use Rattle.st_rule.specs.declared.views.Terms.{Terms}
 use Rattle.st_rule.specs.Board.{plan_of}
-use Rattle.st_rule.specs.Draws.{MayDraw, MayUnlock, MayNew, HasInHand, AwaitsField, AwaitsClass, Suits, IsNextOf, heap_seen, drew, with_flight, left_in_flight}
+use Rattle.st_rule.specs.Draws.{MayDraw, MayUnlock, HasInHand, AwaitsField, AwaitsClass, Suits, IsNextOf, heap_seen, with_flight, left_in_flight}
 use Rattle.st_rule.specs.Entries.{charge_of, charge_of_all, charge_spent, objects_made, next_of}
 use Rattle.st_rule.specs.Holding.{IsSetting, IsMaking, field_loaded, word_loaded}
 use Rattle.st_rule.specs.Plays.{FindsAndDraws}
 use Rattle.st_rule.specs.SeatValue.{SeatValue}
 use Rattle.st_rule.specs.Seats.{IsSameSeat}
-use Rattle.st_rule.specs.Turns.{word_written, with_written, landed}
+use Rattle.st_rule.specs.Turns.{unlocked, word_written, with_written, landed}
 use Rattle.st_rule.proofs.EntryLemmas.{entry, charge_more}
-use Rattle.st_barrier.specs.Calls.{MayCall, HasCell, FitsCell, MakesEvent, heap_before, Loads, Compares}
-use Rattle.st_barrier.specs.Hands.{StaysAs, HasLoadedFields, HoldsQuietly, HasEpoch, IsPlain}
-use Rattle.st_barrier.proofs.HandLemmas.{stays_then, heap_same}
+use Rattle.st_barrier.specs.Calls.{MayCall, HasCell, FitsCell, MakesEvent, Loads, Compares}
+use Rattle.st_barrier.specs.Hands.{StaysAs, HasLoadedFields, HoldsQuietly, HasEpoch, IsPlain, KeepsEpoch, OwesHeader}
+use Rattle.st_barrier.proofs.HandLemmas.{stays_self, stays_by, heap_same}
+
+-- an event that sets a field leaves itself in flight
+pub setting_flies : (h : Heap) (e : Event) (f word : ℕ) → IsSetting e f word → (x : Flight) × (left_in_flight h e ≡ Some x) × (x.event ≡ e)
+setting_flies h (New m obj class) f word s = absurd s
+setting_flies h (Load m obj field value) f word s = absurd s
+setting_flies h (Store m obj field value) f word s = (_, refl, refl)
+setting_flies h (Cas m obj field expect value true) f word s = (_, refl, refl)
+setting_flies h (Cas m obj field expect value false) f word s = absurd (let e : false ≡ true = s.2 in cc)
+setting_flies h (Launch m site number args) f word s = absurd s
+setting_flies h (Retire m number) f word s = absurd s
+
+pub making_flies : (h : Heap) (e : Event) (c : ℕ) → IsMaking e c → (x : Flight) × (left_in_flight h e ≡ Some x) × (x.event ≡ e)
+making_flies h (New m obj class) c s = (_, refl, refl)
+making_flies h (Load m obj field value) c s = absurd s
+making_flies h (Store m obj field value) c s = absurd s
+making_flies h (Cas m obj field expect value done) c s = absurd s
+making_flies h (Launch m site number args) c s = absurd s
+making_flies h (Retire m number) c s = absurd s
 
 -- ---- one event
 
@@ -68,6 +85,15 @@ module _ (before mid : SeatValue) (event : Event) (may : MayDraw before.view eve
         id = stays.id ∙ same.id;
       }
 
+  -- the draw alone
+  pub draw_made : MakesEvent event before mid
+  draw_made = event_made mid (stays_self mid)
+
+  pub draw_keeps_epoch : KeepsEpoch before mid
+  draw_keeps_epoch epoch known =
+      (λ i. word_loaded (ap (λ (v : MutView). v.board) draws.finds.view i).loaded
+      (word_of (plan_of (ap (λ (v : MutView). v.terms) draws.finds.view i).sizes) EpochWord)) ∙ known
+
   abbrev heap : Heap
   heap = heap_after before.view.terms.shape before.view.terms.sizes draws.finds.seen
 
@@ -75,27 +101,15 @@ module _ (before mid : SeatValue) (event : Event) (may : MayDraw before.view eve
   hand_after = ap (λ (v : MutView). v.held) draws.finds.view
 
   -- an event that changes nothing leaves nothing in flight
-  pub note_unlocks : (obj stamp : ℕ) → HoldsQuietly obj stamp before → IsPlain event → MayUnlock mid.view obj stamp
-  note_unlocks obj stamp quiet plain =
-      let hand : Held = record { object = obj; stamp = stamp; loaded = quiet.loaded; flight = None } in
-      let held : mid.view.held ≡ Some (record { object = obj; stamp = stamp; loaded = quiet.loaded; flight = None }) =
-      hand_after ∙ (λ i. with_flight (plain heap i) (quiet.held i)) in
-      record {
-        has = record { hand = record { object = obj; stamp = stamp; loaded = quiet.loaded; flight = None }; held = held; object_is = refl };
-        found = λ none. refl;
-        written = λ x flies. absurd cc;
-        epoch = λ x flies. absurd cc;
-      }
+  pub quiet_stays : (obj stamp : ℕ) → HoldsQuietly obj stamp before → IsPlain event → HoldsQuietly obj stamp mid
+  quiet_stays obj stamp quiet plain = record { loaded = quiet.loaded; held = hand_after ∙ (λ i. with_flight (plain heap i) (quiet.held i)) }
 
   -- a change or a New is in flight
   module _ (obj : ℕ) (has : HasInHand before.view obj) (x : Flight) (leaves : left_in_flight heap event ≡ Some x) where
-    abbrev flown : Held
-    flown = record has.hand { flight = Some x }
-
     flown_held : mid.view.held ≡ Some (record has.hand { flight = Some x })
     flown_held = hand_after ∙ (λ i. with_flight (leaves i) (has.held i))
 
-    pub awaits_field : (field value : ℕ) → IsSetting x.event field value → AwaitsField mid.view obj field value
+    awaits_field : (field value : ℕ) → IsSetting x.event field value → AwaitsField mid.view obj field value
     awaits_field field value sets = record {
       has = record { hand = record has.hand { flight = Some x }; held = flown_held; object_is = has.object_is };
       flight = x;
@@ -103,7 +117,7 @@ module _ (before mid : SeatValue) (event : Event) (may : MayDraw before.view eve
       sets = sets;
     }
 
-    pub awaits_class : (class : ℕ) → IsMaking x.event class → AwaitsClass mid.view obj class
+    awaits_class : (class : ℕ) → IsMaking x.event class → AwaitsClass mid.view obj class
     awaits_class class making = record {
       has = record { hand = record has.hand { flight = Some x }; held = flown_held; object_is = has.object_is };
       flight = x;
@@ -111,38 +125,84 @@ module _ (before mid : SeatValue) (event : Event) (may : MayDraw before.view eve
       making = making;
     }
 
-    -- once its word is written, the header may get the epoch
-    pub written_unlocks : (epoch : ℕ) → HasEpoch epoch before → (after : SeatValue) → after.view ≡ word_written mid.view → MayUnlock after.view obj epoch
-    written_unlocks epoch known after view =
-        let held : after.view.held ≡ Some (record has.hand { loaded = []; flight = Some (record x { written = true }) }) =
-        ap (λ (v : MutView). v.held) view ∙ ap with_written flown_held in
-        let epoch_there : HasEpoch epoch after =
-        (λ i. word_loaded (ap (λ (v : MutView). v.board) (view ∙ ap word_written draws.finds.view) i).loaded
-        (word_of (plan_of (ap (λ (v : MutView). v.terms) (view ∙ ap word_written draws.finds.view) i).sizes) EpochWord)) ∙ known in
-        record {
-          has = record { hand = record has.hand { loaded = []; flight = Some (record x { written = true }) }; held = held; object_is = has.object_is };
-          found = λ none. absurd cc;
-          written = λ y flies. let e : record x { written = true } ≡ y = cc flies in ap (λ (z : Flight). z.written) (sym e);
-          epoch = λ y flies. epoch_there;
-        }
+  pub change_flies : (obj field value : ℕ) → HasInHand before.view obj → IsSetting event field value → AwaitsField mid.view obj field value
+  change_flies obj field value has sets =
+      let flies = setting_flies heap event field value sets in
+      awaits_field obj has flies.0 flies.1 field value (subst (λ (e : Event). IsSetting e field value) (sym flies.2) sets)
 
--- an event that sets a field leaves itself in flight
-pub setting_flies : (h : Heap) (e : Event) (f word : ℕ) → IsSetting e f word → (x : Flight) × (left_in_flight h e ≡ Some x) × (x.event ≡ e)
-setting_flies h (New m obj class) f word s = absurd s
-setting_flies h (Load m obj field value) f word s = absurd s
-setting_flies h (Store m obj field value) f word s = (_, refl, refl)
-setting_flies h (Cas m obj field expect value true) f word s = (_, refl, refl)
-setting_flies h (Cas m obj field expect value false) f word s = absurd (let e : false ≡ true = s.2 in cc)
-setting_flies h (Launch m site number args) f word s = absurd s
-setting_flies h (Retire m number) f word s = absurd s
+  pub new_flies : (obj class : ℕ) → HasInHand before.view obj → IsMaking event class → AwaitsClass mid.view obj class
+  new_flies obj class has makes =
+      let flies = making_flies heap event class makes in
+      awaits_class obj has flies.0 flies.1 class (subst (λ (e : Event). IsMaking e class) (sym flies.2) makes)
 
-pub making_flies : (h : Heap) (e : Event) (c : ℕ) → IsMaking e c → (x : Flight) × (left_in_flight h e ≡ Some x) × (x.event ≡ e)
-making_flies h (New m obj class) c s = (_, refl, refl)
-making_flies h (Load m obj field value) c s = absurd s
-making_flies h (Store m obj field value) c s = absurd s
-making_flies h (Cas m obj field expect value done) c s = absurd s
-making_flies h (Launch m site number args) c s = absurd s
-making_flies h (Retire m number) c s = absurd s
+-- ---- what is left to do
+
+-- a quiet hand may give the object back
+pub quiet_unlocks : (obj stamp : ℕ) (seat : SeatValue) → HoldsQuietly obj stamp seat → MayUnlock seat.view obj stamp
+quiet_unlocks obj stamp seat quiet = record {
+  has = record { hand = record { object = obj; stamp = stamp; loaded = quiet.loaded; flight = None }; held = quiet.held; object_is = refl };
+  found = λ none. refl;
+  written = λ x flies. absurd cc;
+  epoch = λ x flies. absurd cc;
+}
+
+-- so may one that wrote its word, with the epoch
+pub owed_unlocks : (obj epoch : ℕ) (seat : SeatValue) → OwesHeader obj seat → HasEpoch epoch seat → MayUnlock seat.view obj epoch
+owed_unlocks obj epoch seat owes known = record {
+  has = owes.has;
+  found = λ none. absurd (let e : None ≡ Some owes.flight = sym none ∙ owes.flies in cc);
+  written = λ y flies. let e : Some owes.flight ≡ Some y = sym owes.flies ∙ flies in ap (λ (z : Flight). z.written) (sym (flight_is owes.flight y e)) ∙ owes.written;
+  epoch = λ y flies. known;
+}
+  where
+    flight_is : (x y : Flight) → Some x ≡ Some y → x ≡ y
+    flight_is x y e = cc
+
+-- the step that gives it back leaves all else
+pub unlock_stays : (before after : SeatValue) → IsSameSeat before after → after.view ≡ unlocked before.view → StaysAs before after
+unlock_stays before after same view = stays_by before after (unlocked before.view) same view refl refl refl refl
+
+module _ (before after : SeatValue) (same : IsSameSeat before after) (view : after.view ≡ word_written before.view) where
+  -- so does the one that writes the word
+  pub write_stays : StaysAs before after
+  write_stays = stays_by before after (word_written before.view) same view refl refl refl refl
+
+  pub write_keeps_epoch : KeepsEpoch before after
+  write_keeps_epoch epoch known =
+      (λ i. word_loaded (ap (λ (v : MutView). v.board) view i).loaded (word_of (plan_of (ap (λ (v : MutView). v.terms) view i).sizes) EpochWord)) ∙ known
+
+  -- and the header is owed
+  pub write_owes : (obj : ℕ) (has : HasInHand before.view obj) (x : Flight) → has.hand.flight ≡ Some x → OwesHeader obj after
+  write_owes obj has x flies = record {
+    has = record {
+      hand = record has.hand { loaded = []; flight = landed has.hand.flight };
+      held = ap (λ (v : MutView). v.held) view ∙ ap with_written has.held;
+      object_is = has.object_is;
+    };
+    flight = record x { written = true };
+    flies = ap landed flies;
+    written = refl;
+  }
+
+-- ---- one step after another
+
+-- an event, and then what leaves the list and the entries
+pub event_then : (a b c : SeatValue) (e : Event) → MakesEvent e a b → StaysAs b c → MakesEvent e a c
+event_then a b c e made stays =
+    let terms = stays.terms ∙ made.terms in
+    record {
+      past = made.past;
+      goes_on = made.goes_on;
+      seen = ap (λ (j : JournalView). j.seen) stays.journal ∙ made.seen;
+      legal = subst (λ (t : Terms). IsLegal t.shape t.sizes (made.past ++ e ∷ [])) (sym stays.terms) made.legal;
+      entries = ap (λ (j : JournalView). j.entries) stays.journal ∙ made.entries;
+      spare = ap (λ (j : JournalView). charge_of_all j.entries) stays.journal ∙ made.spare;
+      terms = terms;
+      gate = stays.gate ∙ made.gate;
+      hands = stays.hands ∙ made.hands;
+      table = stays.table ∙ made.table;
+      id = stays.id ∙ made.id;
+    }
 
 -- ---- what a seat may draw
 
@@ -313,3 +373,12 @@ new_made a b c m obj class is_m stays made = subst (λ k. MakesEvent (New k obj 
 -- a Cas that is not done leaves nothing in flight
 pub undone_plain : (m obj f expect value : ℕ) (done : Bool) → done ≡ false → IsPlain (Cas m obj f expect value done)
 undone_plain m obj f expect value done undone h = subst (λ b. left_in_flight h (Cas m obj f expect value b) ≡ None) (sym undone) refl
+
+-- a Cas sets its field where it is done, and else it changes nothing
+pub cas_kind : (m obj f expect value : ℕ) (done : Bool) → MatchBool done (IsSetting (Cas m obj f expect value done) f value) (IsPlain (Cas m obj f expect value done))
+cas_kind m obj f expect value true = (refl, refl, refl)
+cas_kind m obj f expect value false = λ heap. refl
+
+-- the object of a quiet hand is in hand
+pub quiet_in_hand : (obj stamp : ℕ) (seat : SeatValue) → HoldsQuietly obj stamp seat → HasInHand seat.view obj
+quiet_in_hand obj stamp seat quiet = record { hand = record { object = obj; stamp = stamp; loaded = quiet.loaded; flight = None }; held = quiet.held; object_is = refl }

@@ -1,5 +1,5 @@
 -- What the steps before and after a draw make of the seat.
-use Rattle.std.proofs.Common.{◌≡◌, ◌≢◌, ℕ, ◌+◌, ◌^◌, ◌<◌, ◌≤◌, ◌==◌, Bool, true, false, if◌then◌else◌, inl, List, [], ◌∷◌, Option, Some, None}
+use Rattle.std.proofs.Common.{◌≡◌, ◌≢◌, ℕ, ◌^◌, ◌<◌, if◌then◌else◌, inl, List, [], ◌∷◌, Option, Some, None}
 use Rattle.std.proofs.Common.{sym, refl, ap, subst, ◌∙◌, arith, eq-eqb, ne_eqb}
 use Rattle.std.specs.Prelude.{IsSome}
 use Rattle.st_layout.specs.Layout.{word_of, words_of}
@@ -9,24 +9,20 @@ use Rattle.st_rule.specs.declared.views.Phase.TheVariants.{Inside}
 use Rattle.st_layout.specs.Names.{EpochWord}
 use Rattle.st_layout.specs.Packed.{packed}
 use Rattle.st_layout.specs.declared.limits.TheConstants.{MOST_FIELDS}
-use Rattle.st_events.specs.declared.events.Event.{Event}
 use Rattle.st_events.specs.Heap.{Heap, Object, word_at, word_of as word_in}
 use Rattle.st_events.specs.History.{heap_after}
-use Rattle.st_events.specs.World.{world_after}
 use Rattle.st_events.proofs.HeapLemmas.{kinds_are_few}
 use Rattle.st_events.proofs.SoundLemmas.{legal_is_sound}
 use Rattle.std.proofs.lemmas.Option.{slice_get_within}
-use Rattle.st_rule.specs.declared.views.Held.{Held}
 use Rattle.st_rule.specs.declared.views.LoadedField.{LoadedField}
 use Rattle.st_rule.specs.declared.views.MutView.{MutView}
-use Rattle.st_rule.specs.declared.views.Terms.{Terms}
 use Rattle.st_rule.specs.Board.{plan_of}
 use Rattle.st_rule.specs.Draws.{HasInHand, MayLoadBoard, heap_seen}
 use Rattle.st_rule.specs.Holding.{word_loaded}
 use Rattle.st_rule.specs.Plays.{Finds, FindsBoard, FindsLock}
 use Rattle.st_rule.specs.SeatValue.{SeatValue, IsFairView}
 use Rattle.st_rule.specs.Seats.{IsSameSeat}
-use Rattle.st_rule.specs.Turns.{board_loaded, locked, locked_at, unlocked, field_found, word_written, with_field}
+use Rattle.st_rule.specs.Turns.{board_loaded, locked, locked_at, field_found, with_field}
 use Rattle.st_barrier.specs.Hands.{StaysAs, HasLoadedFields, HasEpoch}
 
 pub stays_self : (seat : SeatValue) → StaysAs seat seat

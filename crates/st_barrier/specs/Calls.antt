@@ -6,7 +6,6 @@ use Rattle.st_events.specs.declared.events.Event.TheVariants.{Load, Cas}
 use Rattle.st_events.specs.Heap.{Heap, word_at}
 use Rattle.st_events.specs.History.{heap_after}
 use Rattle.st_events.specs.Legal.{IsLegal, fits_cell, is_word}
-use Rattle.st_rule.specs.declared.views.MutView.{MutView}
 use Rattle.st_rule.specs.Draws.{heap_seen}
 use Rattle.st_rule.specs.Entries.{charge_spent}
 use Rattle.st_rule.specs.SeatValue.{SeatValue}

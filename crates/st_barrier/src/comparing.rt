@@ -1,9 +1,12 @@
 //! Cas.
-ghost use Rattle.std.specs.Prelude.{◌≡◌, ◌==◌, ◌∷◌, []};
+ghost use Rattle.std.specs.Prelude.{◌≡◌, ◌==◌, ◌∷◌, [], ◌<◌, false, MatchBool};
 ghost use Rattle.st_barrier.specs.Calls.{MayCall, HasCell, FitsCell, MakesEvent, Compares};
-ghost use Rattle.st_barrier.specs.Hands.{HasLoadedFields};
+ghost use Rattle.st_barrier.specs.Hands.{HasLoadedFields, HoldsQuietly, IsPlain};
 ghost use Rattle.st_events.specs.declared.events.Event.TheVariants.{Cas};
 ghost use Rattle.st_gate.specs.Phases.{IsInside};
+ghost use Rattle.st_layout.specs.declared.limits.TheConstants.{MOST_FIELDS};
+ghost use Rattle.st_rule.specs.Draws.{MayDraw};
+ghost use Rattle.st_rule.specs.Holding.{IsSetting};
 ghost use Rattle.st_rule.specs.Seats.{IsSeatOf, IsFair, HoldsNothing};
 
 use crate::events::{change, note};
@@ -69,10 +72,34 @@ fn cas_with<J: Judge, R: Wait>(
         value,
         done,
     };
+    settle(shared, seat, obj, field, value, stamp, event, done);
+    done
+}
+
+/// The event of a Cas: a change where it is done, and else it changes nothing.
+fn settle<J: Judge>(
+    shared: &Shared<J>,
+    seat: &mut MutSeat<J>,
+    obj: u32,
+    field: u8,
+    value: u64,
+    stamp: u32,
+    event: Event,
+    done: bool,
+)
+    requires table { IsSeatOf J.meant shared.now seat.old }
+    requires fair { IsFair seat.old }
+    requires hand { HoldsQuietly obj stamp seat.old }
+    requires event { MayDraw seat.old.view event false }
+    requires field { field < MOST_FIELDS }
+    requires kind { MatchBool done (IsSetting event field value) (IsPlain event) }
+    ensures made { MakesEvent event seat.old seat.new }
+    ensures fair { IsFair seat.new }
+    ensures hand { HoldsNothing seat.new }
+{
     if done {
         change(shared, seat, obj, field, value, event);
     } else {
         note(shared, seat, obj, stamp, event);
     }
-    done
 }

@@ -6,12 +6,15 @@
 ghost use Rattle.std.specs.Prelude.{◌≡◌, ◌<◌, false};
 ghost use Rattle.st_layout.specs.declared.limits.TheConstants.{MOST_FIELDS};
 ghost use Rattle.st_rule.specs.declared.views.Phase.TheVariants.{Inside};
-ghost use Rattle.st_rule.specs.Draws.{HasInHand, MayDraw};
+ghost use Rattle.st_rule.specs.Draws.{HasInHand, MayDraw, AwaitsField, AwaitsClass};
 ghost use Rattle.st_rule.specs.Holding.{IsSetting, IsMaking};
 ghost use Rattle.st_rule.specs.Seats.{IsSeatOf, IsFair, HoldsNothing};
 ghost use Rattle.st_barrier.specs.Calls.{MakesEvent};
 ghost use Rattle.st_barrier.specs.Hands.{StaysAs, HoldsQuietly, HasEpoch, IsPlain};
 
+use crate::drawing::{
+    draw_change, draw_new, draw_plain, give_back, give_back_changed, write_class, write_field,
+};
 use st_events::{Event, Judge};
 use st_rule::{MutSeat, Shared};
 
@@ -31,8 +34,8 @@ pub(crate) fn note<J: Judge>(
     ensures fair { IsFair seat.new }
     ensures hand { HoldsNothing seat.new }
 {
-    shared.draw(seat, event, false);
-    shared.unlock(seat, obj, stamp);
+    draw_plain(shared, seat, obj, stamp, event);
+    give_back(shared, seat, obj, stamp);
 }
 
 /// A change of one field. The object gets the epoch as its stamp.
@@ -55,9 +58,29 @@ pub(crate) fn change<J: Judge>(
     ensures hand { HoldsNothing seat.new }
 {
     let epoch = load_epoch(shared, seat);
-    shared.draw(seat, event, false);
-    shared.field_store(seat, obj, field, value);
-    shared.unlock(seat, obj, epoch);
+    draw_change(shared, seat, obj, field, value, event);
+    finish_change(shared, seat, obj, field, value, epoch);
+}
+
+/// Writes the field of a change that is drawn, and gives the object back.
+fn finish_change<J: Judge>(
+    shared: &Shared<J>,
+    seat: &mut MutSeat<J>,
+    obj: u32,
+    field: u8,
+    value: u64,
+    epoch: u32,
+)
+    requires table { IsSeatOf J.meant shared.now seat.old }
+    requires flight { AwaitsField seat.old.view obj field value }
+    requires field { field < MOST_FIELDS }
+    requires epoch { HasEpoch epoch seat.old }
+    ensures stays { StaysAs seat.old seat.new }
+    ensures fair { IsFair seat.new }
+    ensures hand { HoldsNothing seat.new }
+{
+    write_field(shared, seat, obj, field, value);
+    give_back_changed(shared, seat, obj, epoch);
 }
 
 /// A New of an object of the class. The object gets the epoch as its stamp.
@@ -78,9 +101,21 @@ pub(crate) fn make<J: Judge>(
     ensures hand { HoldsNothing seat.new }
 {
     let epoch = load_epoch(shared, seat);
-    shared.draw(seat, event, false);
-    shared.class_store(seat, obj, class);
-    shared.unlock(seat, obj, epoch);
+    draw_new(shared, seat, obj, class, event);
+    finish_new(shared, seat, obj, class, epoch);
+}
+
+/// Writes the class of an object whose New is drawn, and gives the object back.
+fn finish_new<J: Judge>(shared: &Shared<J>, seat: &mut MutSeat<J>, obj: u32, class: u8, epoch: u32)
+    requires table { IsSeatOf J.meant shared.now seat.old }
+    requires flight { AwaitsClass seat.old.view obj class }
+    requires epoch { HasEpoch epoch seat.old }
+    ensures stays { StaysAs seat.old seat.new }
+    ensures fair { IsFair seat.new }
+    ensures hand { HoldsNothing seat.new }
+{
+    write_class(shared, seat, obj, class);
+    give_back_changed(shared, seat, obj, epoch);
 }
 
 /// The epoch, which stays as it is while the seat is inside.

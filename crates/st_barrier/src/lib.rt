@@ -2,11 +2,14 @@
 #![tactic(auto)]
 
 mod comparing;
+mod drawing;
 mod events;
 mod loading;
 mod locking;
 mod making;
 mod storing;
+#[cfg(test)]
+mod tests;
 
 pub use comparing::cas;
 pub use loading::load;

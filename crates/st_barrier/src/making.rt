@@ -42,11 +42,22 @@ fn new_with<J: Judge>(shared: &Shared<J>, seat: &mut MutSeat<J>, class: u8) -> u
     ensures inside { IsInside seat.new }
     ensures hand { HoldsNothing seat.new }
 {
-    let m = seat.number();
     let obj = next_object(shared, seat);
+    let event = new_event(seat, obj, class);
     lock_next(shared, seat, obj);
-    make(shared, seat, obj, class, Event::New { m, obj, class });
+    make(shared, seat, obj, class, event);
     obj
+}
+
+/// The New of an object by this seat.
+fn new_event<J: Judge>(seat: &MutSeat<J>, obj: u32, class: u8) -> Event
+    ensures { result ≡ New seat.now.view.gate.number obj class }
+{
+    Event::New {
+        m: seat.number(),
+        obj,
+        class,
+    }
 }
 
 /// The next object of the seat's region.

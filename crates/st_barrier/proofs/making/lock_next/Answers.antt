@@ -1,5 +1,4 @@
 use Rattle.std.proofs.Common.{inr}
-use Rattle.st_barrier.proofs.HandLemmas.{lock_stays, lock_taken}
 use Rattle.st_barrier.proofs.making.lock_next.Goals as goal
 
 pub lock-requires-clause-object : goal.lock-requires-clause-object
