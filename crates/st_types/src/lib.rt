@@ -7,6 +7,7 @@ mod calls;
 mod checking;
 mod errors;
 mod expressions;
+mod judging;
 mod kinds;
 mod laws;
 mod names;
