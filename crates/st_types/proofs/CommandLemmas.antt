@@ -10,7 +10,7 @@ use Rattle.st_ast.specs.declared.declarations.Proc.{Proc}
 use Rattle.st_ast.specs.declared.declarations.Program as trees
 use Rattle.st_ast.specs.declared.declarations.TypeName.TheVariants as types
 use Rattle.st_ast.specs.declared.expressions.Expr.{Expr}
-use Rattle.st_ast.specs.declared.expressions.Expr.TheViews.{roll-Expr, out-roll-Expr}
+use Rattle.st_ast.specs.declared.expressions.Expr.TheViews.{out-roll-Expr}
 use Rattle.st_ast.specs.declared.expressions.Expr.TheFolds.{fold-roll-Expr, ind-Expr, map-Expr}
 use Rattle.st_ast.specs.declared.expressions.Expr.TheOpen.{Expr-F}
 use Rattle.st_ast.specs.declared.statements.Stmt.{Stmt}
@@ -24,24 +24,22 @@ use Rattle.st_events.specs.declared.shapes.Kind.{Kind}
 use Rattle.st_events.specs.declared.shapes.Kind.TheVariants as kinds
 use Rattle.st_events.specs.Kind.{IsDeclaredKind}
 use Rattle.st_events.specs.Shape.{ShapeLists, kinds_of}
-use Rattle.st_program.specs.Kinds.{Setting, HasKind, HaveKinds, StoresKind, GivesKind}
-use Rattle.st_program.specs.Terms.{Term, from_term, from_new, CheckStatement, Routine, Program, Command, an_if, a_while, a_launch}
-use Rattle.st_program.specs.Views.{terms_of}
+use Rattle.st_program.specs.Kinds.{Setting, HasKind, StoresKind, GivesKind}
+use Rattle.st_program.specs.Terms.{Term, from_term, from_new, Program, an_if, a_while, a_launch}
 use Rattle.st_program.specs.WellFormed as formed
-use Rattle.st_types.specs.declared.errors.TypeError.{TypeError}
 use Rattle.st_types.specs.declared.errors.TypeError.TheVariants.{UnknownName, NotHere}
 use Rattle.st_types.specs.declared.kinds.Found.{Found}
 use Rattle.st_types.specs.declared.kinds.Found.TheVariants.{Unknown, Null, Known}
 use Rattle.st_types.specs.declared.names.Named.{Named}
 use Rattle.st_types.specs.Judged.{Judged, judged, judged_node, in_order}
 use Rattle.st_types.specs.Kinds.{goes_with, asks}
-use Rattle.st_types.specs.Names.{kind_of, find_field, find_local, param_kinds, Local, class_kind, class_number, pred_number, proc_number, named_kind, named_number}
+use Rattle.st_types.specs.Names.{kind_of, find_field, find_local, Local, class_kind, class_number, pred_number, proc_number, named_kind}
 use Rattle.st_types.specs.Nodes.{Seen, a_bool, asks_name, asks_args, number_or_0}
-use Rattle.st_types.specs.Places.{is_place, is_place_layer, has_target, has_targets, are_all, others_are, targets_node, have_targets}
+use Rattle.st_types.specs.Places.{is_place, is_place_layer, has_target, has_targets, are_all, targets_node, have_targets}
 use Rattle.st_types.specs.Rules.{field_kinds, class_kinds}
 use Rattle.st_types.specs.Scopes.{ScopeView}
-use Rattle.st_types.specs.Statements.{known_kind, target_at, judged_value, JudgedValue, Launched, Reached, Walked, WalkedBlock, walk_all, walk_block, walk_node, walk, closed}
-use Rattle.st_types.specs.Statements.{plain_scope, check_scope, asks_new, asks_type, asks_proc, find_proc, is_local, mentions, with_number, numbers_of, args_of_check, locals_at, if_any, declare, launch}
+use Rattle.st_types.specs.Statements.{known_kind, target_at, judged_value, Launched, Reached, Walked, WalkedBlock, walk_all, walk_block, walk_node, walk}
+use Rattle.st_types.specs.Statements.{plain_scope, check_scope, asks_new, asks_type, asks_proc, is_local, mentions, with_number, numbers_of, args_of_check, locals_at, if_any, launch}
 use Rattle.st_types.proofs.ShapeLemmas.{none_left, none_right, classes_of, IsDeclaredFound, type_known, all_append, found_declared}
 use Rattle.st_types.proofs.TermLemmas.{Allows, allowed_as, asked_goes, asked_as_kind, HasFound, IsSetting, IsJudgedIn, named_has, field_fits, args_asked, expression_fits}
 use Rattle.st_types.proofs.SettingLemmas.{AreFirst, first_at, first_front, first_last, first_open, first_of_all, known_at, named_in, local_named, StandsFor, plain_is, calling_is}
@@ -102,11 +100,13 @@ value_fits s t w long (values.Cas place expect value site) h k =
     let own = none_right c.faults (first ++ (second ++ [])) values in
     let stored = place_fits s t w place h (none_left a.faults _ k) in
     let expected = subst (λ f. goes_with f b.seen.kind ≡ true) stored.1 (asked_goes a.seen.kind b.seen.kind b.seen.site (none_left first _ own)) in
-    let new = subst (λ f. goes_with f c.seen.kind ≡ true) stored.1 (asked_goes a.seen.kind c.seen.kind c.seen.site (none_left second [] (none_right first _ own))) in
-    (stored.0, stored.2,
-    allowed_as (HasKind t b.seen.term) stored.0 b.seen.kind expected (expression_fits s t w expect (none_left b.faults _ behind)),
-    allowed_as (HasKind t c.seen.term) stored.0 c.seen.kind new (expression_fits s t w value (none_left c.faults _ values)),
-    refl)
+    let new = subst (λ f. goes_with f c.seen.kind ≡ true) stored.1 (asked_goes a.seen.kind c.seen.kind c.seen.site (none_left second [] (none_right first _ own))) in (
+      stored.0,
+      stored.2,
+      allowed_as (HasKind t b.seen.term) stored.0 b.seen.kind expected (expression_fits s t w expect (none_left b.faults _ behind)),
+      allowed_as (HasKind t c.seen.term) stored.0 c.seen.kind new (expression_fits s t w value (none_left c.faults _ values)),
+      refl,
+    )
 
 -- a list is a front of another
 abbrev pub IsFront : {X : Type 0} → List X → List X → Type 0
@@ -342,7 +342,7 @@ all_numbers : (locals : List Local) (names : List (List ℕ)) (numbers : List �
 all_numbers locals [] numbers are = are
 all_numbers locals (name ∷ names) numbers are =
     let found : (named : Named) → find_local locals name ≡ Some named → (l : Local) × (slice_get locals named.number ≡ Some l) =
-        λ named h. (let l = named_in locals named (position (λ l. l.is_known && bytes_eq l.name name) locals) h in (l.0, l.1)) in
+    λ named h. (let l = named_in locals named (position (λ l. l.is_known && bytes_eq l.name name) locals) h in (l.0, l.1)) in
     all_numbers locals names (with_number numbers (find_local locals name)) (one_number locals numbers (find_local locals name) found are)
 
 takes : (locals : List Local) (founds : List Found) (numbers : List ℕ) → AreFirst locals founds → AreNumbers locals numbers
@@ -470,7 +470,7 @@ layer_right a w (Stmt-F.Call name args site) t r h b =
         found.0,
         ap (λ o. slice_get a.program.procs (number_or_0 o)) asked.2 ∙ found.1,
         args_asked a.tree asked.1.params (formed.param_kinds found.0) (setting_of a) given site found.2
-        (each_judged scope (setting_of a) (plain_at a w r b) args) (none_left faults _ h) asked.4,
+            (each_judged scope (setting_of a) (plain_at a w r b) args) (none_left faults _ h) asked.4,
       );
       launches = λ x. x;
     }

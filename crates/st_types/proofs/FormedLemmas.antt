@@ -1,6 +1,6 @@
 -- A tree within the limits that keeps every rule is, with numbers in the place of names, a well-formed program.
-use Rattle.std.proofs.Common.{◌≡◌, ℕ, ◌+◌, ◌≤◌, zero, suc, Bool, true, ◌&&◌, List, [], ◌∷◌, ◌++◌, map, length, take, Some, refl, ap, sym, ◌∙◌, subst, arith, append-nil}
-use Rattle.std.specs.Prelude.{slice_get, option_map, All, is_some, ◌||◌}
+use Rattle.std.proofs.Common.{◌≡◌, ℕ, ◌≤◌, zero, suc, true, List, [], ◌∷◌, ◌++◌, map, length, take, Some, refl, ap, sym, ◌∙◌, subst, arith, append-nil}
+use Rattle.std.specs.Prelude.{slice_get, option_map, All}
 use Rattle.std.specs.List.{AllByRecursion, list_any}
 use Rattle.std.specs.Str.{bytes_eq}
 use Rattle.std.proofs.lemmas.List.{length-map}
@@ -14,14 +14,13 @@ use Rattle.st_ast.specs.declared.declarations.Proc.{Proc}
 use Rattle.st_ast.specs.declared.declarations.Thread.{Thread}
 use Rattle.st_ast.specs.declared.declarations.Program as trees
 use Rattle.st_ast.specs.declared.statements.Stmt.{Stmt}
-use Rattle.st_events.specs.declared.shapes.Kind.{Kind}
 use Rattle.st_events.specs.declared.shapes.TheConstants.{MOST_ARGS}
 use Rattle.st_events.specs.Kind.{IsDeclaredKind}
 use Rattle.st_events.specs.Shape.{ShapeLists}
 use Rattle.st_events.specs.Shape as shapes
 use Rattle.st_program.specs.declared.limits.TheConstants.{MOST_PARAMS}
 use Rattle.st_program.specs.Kinds.{Setting, HasKind}
-use Rattle.st_program.specs.Terms.{Predicate, Routine, Program}
+use Rattle.st_program.specs.Terms.{Routine, Program}
 use Rattle.st_program.specs.Views.{program_of}
 use Rattle.st_program.specs.WellFormed as formed
 use Rattle.st_program.specs.WellFormed.{IsWellFormed, IsRightPredicate, IsRightRoutine, AreRightChecks}
@@ -30,21 +29,20 @@ use Rattle.st_types.specs.declared.kinds.Found.TheVariants.{Known}
 use Rattle.st_types.specs.Judged.{judged}
 use Rattle.st_types.specs.Kinds.{asks}
 use Rattle.st_types.specs.Limits.{IsSmallBody, IsWithinLimits, proc_tally, thread_tally}
-use Rattle.st_types.specs.Names.{kind_of, param_kinds, pred_number, Local}
+use Rattle.st_types.specs.Names.{kind_of, param_kinds, Local}
 use Rattle.st_types.specs.Places.{have_targets, are_all}
 use Rattle.st_types.specs.Rules.{each_with_earlier, class_faults, field_faults, fields_faults, param_faults, params_faults, param_locals, pred_scope, pred_head_faults, pred_body_faults}
 use Rattle.st_types.specs.Rules.{pred_faults, faults_of, resolution, shape_of, class_kinds, field_kinds, predicate_at, walk_body, routine_at, proc_head_faults, WalkedRoutine}
 use Rattle.st_types.specs.Rules.{walk_routines, walk_proc, walk_thread, walked_procs, walked_threads}
 use Rattle.st_types.specs.Statements.{asks_type, asks_new, known_kind, Launched, Reached}
-use Rattle.st_types.specs.Tallies.{Tally, all_of, tally_all}
+use Rattle.st_types.specs.Tallies.{all_of, tally_all}
 use Rattle.st_types.specs.TypedPrograms.{TypedView, IsTyped}
 use Rattle.st_types.proofs.TallyLemmas.{walk_all_grows}
-use Rattle.st_types.proofs.ShapeLemmas.{none_left, none_right, classes_of, IsDeclaredFound, AreDeclared, AreFitting, type_known, kind_declared, each_none, all_at, params_declared, kinds_declared}
+use Rattle.st_types.proofs.ShapeLemmas.{none_left, none_right, classes_of, IsDeclaredFound, AreDeclared, AreFitting, type_known, each_none, all_at, params_declared, kinds_declared}
 use Rattle.st_types.proofs.ShapeLemmas.{statements_keep, proc_keeps, thread_keeps, routines_keep, shape_fits}
-use Rattle.st_types.proofs.TermLemmas.{HasFound, HasKindsOf, asked_as_kind, allowed_as, asked_goes, expression_fits}
+use Rattle.st_types.proofs.TermLemmas.{asked_as_kind, expression_fits}
 use Rattle.st_types.proofs.SettingLemmas.{AreFirst, AreDeclaredFields, StandsFor}
 use Rattle.st_types.proofs.CommandLemmas.{IsFront, HasBefore, statements_back, Around, IsAround, IsRightLaunch, all_first, kinds_twice, kinds_are_declared, calling_at, statements_right, both_true}
-use Rattle.st_types.proofs.CommandLemmas.{kinds_at_end}
 
 -- the shape and the program of a tree, without their names
 abbrev shape_at : trees.Program → ShapeLists
@@ -297,9 +295,9 @@ formed_at p h fits classes shared preds procs threads =
       shared = declared_fields p p.shared (each_none (field_faults p) [] p.shared shared);
       fields = declared_classes p p.classes (each_none (class_faults p) [] p.classes classes);
       preds = λ n pred e. (
-        let own = all_at (IsSoundPred p) p.preds n pred sound e in
-        (predicate_at p pred, slice_get-map (predicate_at p) p.preds n ∙ ap (option_map (predicate_at p)) e, (known_is p (kind_of p pred.result) own.result, params_known p pred.params own.params))
-      );
+          let own = all_at (IsSoundPred p) p.preds n pred sound e in
+          (predicate_at p pred, slice_get-map (predicate_at p) p.preds n ∙ ap (option_map (predicate_at p)) e, (known_is p (kind_of p pred.result) own.result, params_known p pred.params own.params))
+          );
       procs = procs_stand p [] [] p.procs procs;
     } in
     let w : IsWhole p = record { stands = stands; fit = fit } in

@@ -1,11 +1,10 @@
 -- What the names of a scope stand for: where declarations keep the rules, names that are found have kinds in the setting of the resolved program.
-use Rattle.std.proofs.Common.{◌≡◌, ℕ, zero, suc, ◌-◌, Bool, true, false, List, [], ◌∷◌, ◌++◌, map, length, take, drop, Option, Some, None, refl, ap, sym, ◌∙◌, subst}
-use Rattle.std.proofs.Common.{◌==◌, arith}
+use Rattle.std.proofs.Common.{◌≡◌, ℕ, zero, suc, ◌-◌, true, false, List, [], ◌∷◌, ◌++◌, map, length, take, drop, Option, Some, None, refl, ap, sym, ◌∙◌, subst}
+use Rattle.std.proofs.Common.{arith}
 use Rattle.std.specs.Prelude.{slice_get, option_map, unwrap_or, position, ◌&&◌, if◌then◌else◌}
-use Rattle.std.specs.List.{AllByRecursion, list_any}
+use Rattle.std.specs.List.{AllByRecursion}
 use Rattle.std.specs.Option.{option_and_then}
 use Rattle.std.specs.Str.{bytes_eq}
-use Rattle.std.proofs.lemmas.List.{length-map}
 use Rattle.std.proofs.lemmas.Option.{slice_get-map}
 use Rattle.std.proofs.Math.Dec.{eqb-suc-zero}
 use Rattle.st_ast.specs.declared.declarations.Class.{Class}
@@ -13,33 +12,17 @@ use Rattle.st_ast.specs.declared.declarations.Field.{Field}
 use Rattle.st_ast.specs.declared.declarations.Pred.{Pred}
 use Rattle.st_ast.specs.declared.declarations.Proc.{Proc}
 use Rattle.st_ast.specs.declared.declarations.Program as trees
-use Rattle.st_ast.specs.declared.declarations.TypeName.TheVariants as types
-use Rattle.st_ast.specs.declared.expressions.Expr.{Expr, out-Expr}
-use Rattle.st_ast.specs.declared.expressions.Expr.TheViews.{roll-Expr, out-roll-Expr}
-use Rattle.st_ast.specs.declared.expressions.Expr.TheFolds.{fold-roll-Expr, ind-Expr, map-Expr}
-use Rattle.st_ast.specs.declared.expressions.Expr.TheOpen.{Expr-F}
-use Rattle.st_ast.specs.declared.statements.Value.{Value}
-use Rattle.st_ast.specs.declared.statements.Value.TheVariants as values
-use Rattle.st_events.specs.declared.events.Site.{Site}
 use Rattle.st_events.specs.declared.shapes.Kind.{Kind}
-use Rattle.st_events.specs.declared.shapes.Kind.TheVariants as kinds
-use Rattle.st_events.specs.Kind.{IsDeclaredKind}
 use Rattle.st_events.specs.Shape.{ShapeLists, kinds_of}
-use Rattle.st_program.specs.Kinds.{Setting, HasKind, StoresKind, GivesKind}
-use Rattle.st_program.specs.Terms.{Term, a_shared, a_field, from_term, from_new, Source, Predicate, Routine, Program}
+use Rattle.st_program.specs.Terms.{Predicate, Routine, Program}
 use Rattle.st_program.specs.WellFormed as formed
 use Rattle.st_types.specs.declared.kinds.Found.{Found}
-use Rattle.st_types.specs.declared.kinds.Found.TheVariants.{Unknown, Null, Known}
+use Rattle.st_types.specs.declared.kinds.Found.TheVariants.{Known}
 use Rattle.st_types.specs.declared.names.Named.{Named}
-use Rattle.st_types.specs.Judged.{Judged, judged, judged_node}
-use Rattle.st_types.specs.Kinds.{asks}
-use Rattle.st_types.specs.Names.{kind_of, fields_of, fields_at, find_field, find_local, param_kinds, Local, class_kind, class_number}
-use Rattle.st_types.specs.Nodes.{asks_name, field_of, number_or_0}
-use Rattle.st_types.specs.Places.{is_place, is_place_layer, has_target}
+use Rattle.st_types.specs.Names.{kind_of, fields_of, fields_at, find_field, find_local, param_kinds, Local}
 use Rattle.st_types.specs.Rules.{field_kinds, class_kinds}
-use Rattle.st_types.specs.Scopes.{ScopeView}
-use Rattle.st_types.specs.Statements.{known_kind, forgotten, target_at, judged_value}
-use Rattle.st_types.proofs.ShapeLemmas.{none_left, none_right, classes_of, IsDeclaredFound, type_known, all_at}
+use Rattle.st_types.specs.Statements.{known_kind, forgotten}
+use Rattle.st_types.proofs.ShapeLemmas.{IsDeclaredFound, all_at}
 use Rattle.st_types.proofs.TermLemmas.{HasNamed, HasKindsOf, IsSetting}
 
 -- the kinds of locals are the first of these
@@ -155,7 +138,7 @@ class_field_named p shape q w zero name named h = cc
 class_field_named p shape q w (suc c) name named h =
     let back : suc c - 1 ≡ c = omega arith in
     let next : fields_of p (suc c) ≡ fields_at (slice_get p.classes c) =
-        ap (λ b. if b then [] else fields_at (slice_get p.classes (suc c - 1))) (eqb-suc-zero c) ∙ ap (λ n. fields_at (slice_get p.classes n)) back in
+    ap (λ b. if b then [] else fields_at (slice_get p.classes (suc c - 1))) (eqb-suc-zero c) ∙ ap (λ n. fields_at (slice_get p.classes n)) back in
     subst (λ cs. HasNamed (unwrap_or (slice_get cs (suc c)) []) named) (sym w.classes)
     (subst (λ o. HasNamed (unwrap_or o []) named) (sym (slice_get-map (λ (x : Class). field_kinds p x.fields) p.classes c))
     (by_class (slice_get p.classes c) refl (subst (λ fields. find_field p fields name ≡ Some named) next h)))

@@ -27,8 +27,8 @@ use Rattle.st_types.specs.declared.names.Named.{Named}
 use Rattle.st_types.specs.Judged.{Judged, judged, judged_node, in_order}
 use Rattle.st_types.specs.Kinds.{same_kind, goes_with, asks}
 use Rattle.st_types.specs.Names.{kind_of, fields_of, find_field, find_local, param_kinds, pred_number, proc_number, named_kind, named_number}
-use Rattle.st_types.specs.Nodes.{Seen, a_bool, an_int, asks_name, field_of, asks_field, left_asked, right_asked, op_kind, op_term, branch_kind, asks_each, asks_args}
-use Rattle.st_types.specs.Nodes.{asks_call, no_predicate, find_pred, refuses_call, is_callable, result_kind, number_or_0}
+use Rattle.st_types.specs.Nodes.{Seen, a_bool, asks_name, field_of, asks_field, left_asked, right_asked, op_kind, op_term, branch_kind, asks_each, asks_args}
+use Rattle.st_types.specs.Nodes.{asks_call, find_pred, refuses_call, is_callable, result_kind, number_or_0}
 use Rattle.st_types.specs.Scopes.{ScopeView}
 use Rattle.st_types.proofs.ShapeLemmas.{none_left, none_right}
 
@@ -168,9 +168,10 @@ args_fit t (j ∷ js) (kind ∷ asked) each long h k =
     let more = in_order (map (λ j. j.faults) js) in
     let own = asks (Known kind) j.seen.site j.seen.kind in
     let others = asks_each (map Known asked) (map (λ j. j.seen) js) in
-    let rest : length js ≡ length asked = cc in
-    (asked_as_kind t j.seen.term kind j.seen.kind j.seen.site (none_left own others k) (each.0 (none_left j.faults more h)),
-    args_fit t js asked each.1 rest (none_right j.faults more h) (none_right own others k))
+    let rest : length js ≡ length asked = cc in (
+      asked_as_kind t j.seen.term kind j.seen.kind j.seen.site (none_left own others k) (each.0 (none_left j.faults more h)),
+      args_fit t js asked each.1 rest (none_right j.faults more h) (none_right own others k),
+    )
 
 -- as many as parameters, each of its kind
 counted : (given asked : ℕ) (each : List TypeError) (at : Site) (fault : TypeError) → (if given == asked then each else (fault ∷ [])) ≡ [] → (given ≡ asked) × (each ≡ [])
@@ -186,7 +187,7 @@ pub args_asked : (p : Program) (params : List Param) (asked : List Kind) (t : Se
 args_asked p params asked t js site same each h k =
     let both = counted _ _ _ site _ k in
     let long : length js ≡ length asked =
-        sym (length-map js (λ (j : Judged). j.seen)) ∙ both.0 ∙ sym (length-map params (λ (param : Param). kind_of p param.kind)) ∙ ap length same ∙ length-map asked Known in
+    sym (length-map js (λ (j : Judged). j.seen)) ∙ both.0 ∙ sym (length-map params (λ (param : Param). kind_of p param.kind)) ∙ ap length same ∙ length-map asked Known in
     args_fit t js asked each long h (subst (λ (fs : List Found). asks_each fs (map (λ (j : Judged). j.seen) js) ≡ []) same both.1)
 
 -- the predicate of a name, by its number

@@ -1,9 +1,10 @@
--- The condition on a tree: there are no more of each than its limit, and stores have places as targets. Whatever the parser gives keeps it.
+-- The condition on a tree: there are no more of each than its limit, stores have places as targets, and threads have names. Whatever the parser gives keeps it.
 use Rattle.std.specs.Prelude.{◌≡◌, ◌+◌, ◌≤◌, Bool, true, ◌&&◌, List, [], length, map, All, Vec}
 use Rattle.std.specs.declared.alloc.Global.{Global}
 use Rattle.st_events.specs.declared.shapes.TheConstants.{MOST_CHECKS, MOST_ARGS}
 use Rattle.st_events.specs.declared.limits.TheConstants.{MOST_MUTATORS}
 use Rattle.st_program.specs.declared.limits.TheConstants.{MOST_PARAMS, MOST_LOCALS}
+use Rattle.st_lex.specs.Spellings.{is_name}
 use Rattle.st_ast.specs.declared.declarations.Param.{Param}
 use Rattle.st_ast.specs.declared.declarations.Pred.{Pred}
 use Rattle.st_ast.specs.declared.declarations.Proc.{Proc}
@@ -59,3 +60,4 @@ pub record IsWithinLimits (p : Program) : Type 0 where
   pub checks : (tally_of p).checks ≤ MOST_CHECKS
   pub arguments : (tally_of p).names ≤ MOST_ARGS
   pub targets : have_targets_of p ≡ true
+  pub thread_names : All (λ thread. is_name thread.name ≡ true) p.threads

@@ -1,6 +1,7 @@
 //! A program whose types were checked.
-ghost use Rattle.std.specs.Prelude.{◌≡◌, ◌<◌, ◌≤◌, [], length, slice_get, Some, option_map};
+ghost use Rattle.std.specs.Prelude.{◌≡◌, ◌<◌, ◌≤◌, true, [], length, slice_get, Some, option_map};
 ghost use Rattle.st_events.specs.Shape as shapes;
+ghost use Rattle.st_lex.specs.Spellings.{is_name};
 ghost use Rattle.st_program.specs.Views.{program_of};
 ghost use Rattle.st_program.specs.WellFormed.{IsWellFormed};
 ghost use Rattle.st_types.specs.Limits.{IsWithinLimits};
@@ -93,10 +94,11 @@ impl Typed {
         self.program.threads.len() as u8
     }
 
-    /// The name of a thread, in ASCII.
+    /// The name of a thread: a letter or `_`, then letters, digits and `_`, in ASCII.
     pub fn thread_name(&self, m: u8) -> &[u8]
         requires { m < length self.now.program.threads }
-        ensures { option_map (λ t. t.name) (slice_get self.now.program.threads m) ≡ Some result.now }
+        ensures named { option_map (λ t. t.name) (slice_get self.now.program.threads m) ≡ Some result.now }
+        ensures name { is_name result.now ≡ true }
     {
         self.program.threads.as_slice()[m as usize].name.as_slice()
     }
