@@ -226,7 +226,7 @@ few {p = p} w t h within =
     let most_of : at at_start w + how_many w (items_of p) ≤ most w = total w (items_of p) at_start refl within (lasts_items w t h) start in
     omega (arith, most_of)
 
-folded_length : (ts : List Item) (counts : List ℕ) → length counts ≡ 9 → length (fold counted counts ts) ≡ 9
+pub folded_length : (ts : List Item) (counts : List ℕ) → length counts ≡ 9 → length (fold counted counts ts) ≡ 9
 folded_length [] counts long = long
 folded_length (t ∷ ts) counts long = folded_length ts (counted counts t) (counted_length counts t long)
 
@@ -235,7 +235,7 @@ anew : (w : What) (counts : List ℕ) → length counts ≡ 9 → at (counted co
 anew w counts long = let below : slot w < 9 = slot_below w in get_or-set_same counts (slot w) 0 0 (omega (arith, below, long))
 
 -- what is counted anew is within its limit, as far as the count lasts
-few_anew : (w : What) (ts : List Item) (counts : List ℕ) → length counts ≡ 9 → first_from excess counted counts (item.Anew w ∷ ts) ≡ None → Lasts w ts
+pub few_anew : (w : What) (ts : List Item) (counts : List ℕ) → length counts ≡ 9 → first_from excess counted counts (item.Anew w ∷ ts) ≡ None → Lasts w ts
     → how_many w ts ≤ most w
 few_anew w ts counts long e lasts =
     let none : at (counted counts (item.Anew w)) w ≡ 0 = anew w counts long in
@@ -363,18 +363,18 @@ threads_few (g.more {item = x} {items = xs} (g.thread {body = body} a b i) k) co
     (threads_few k (fold counted counts (c.thread_items x)) (folded_length (c.thread_items x) counts long) parts.1)
 
 -- the items after the front: those of the predicates, the procedures and the threads, each with the counts before it
-record Bodies (p : Program) : Type 0 where
-  before_preds : List ℕ
-  before_procs : List ℕ
-  before_threads : List ℕ
-  long_preds : length before_preds ≡ 9
-  long_procs : length before_procs ≡ 9
-  long_threads : length before_threads ≡ 9
-  preds : first_from excess counted before_preds (flat_map c.pred_items p.preds) ≡ None
-  procs : first_from excess counted before_procs (flat_map c.proc_items p.procs) ≡ None
-  threads : first_from excess counted before_threads (flat_map c.thread_items p.threads) ≡ None
+pub record Bodies (p : Program) : Type 0 where
+  pub before_preds : List ℕ
+  pub before_procs : List ℕ
+  pub before_threads : List ℕ
+  pub long_preds : length before_preds ≡ 9
+  pub long_procs : length before_procs ≡ 9
+  pub long_threads : length before_threads ≡ 9
+  pub preds : first_from excess counted before_preds (flat_map c.pred_items p.preds) ≡ None
+  pub procs : first_from excess counted before_procs (flat_map c.proc_items p.procs) ≡ None
+  pub threads : first_from excess counted before_threads (flat_map c.thread_items p.threads) ≡ None
 
-bodies_of : (p : Program) → first_from excess counted at_start (items_of p) ≡ None → Bodies p
+pub bodies_of : (p : Program) → first_from excess counted at_start (items_of p) ≡ None → Bodies p
 unfolding items_of
 bodies_of p e =
     let first : List Item = flat_map c.class_items p.classes ++ (item.Anew what.Fields ∷ flat_map c.field_items p.shared) in
@@ -397,13 +397,13 @@ bodies_of p e =
     }
 
 -- the terminals of the procedures and of the threads
-record Spelled (p : Program) : Type 0 where
-  of_procs : List Terminal
-  of_threads : List Terminal
-  procs : AreMany IsProc of_procs p.procs
-  threads : AreMany IsThread of_threads p.threads
+pub record Spelled (p : Program) : Type 0 where
+  pub of_procs : List Terminal
+  pub of_threads : List Terminal
+  pub procs : AreMany IsProc of_procs p.procs
+  pub threads : AreMany IsThread of_threads p.threads
 
-spelled : {ts : List Terminal} {p : Program} → Parses ts p → Spelled p
+pub spelled : {ts : List Terminal} {p : Program} → Parses ts p → Spelled p
 spelled (g.program {ws = ws} {xs = xs} a b d f h) = record { of_procs = ws; of_threads = xs; procs = f; threads = h }
 
 pub few_of_each : (ts : List Terminal) (p : Program) → Parses ts p → IsWithinCounts p → HasFewOfEach p

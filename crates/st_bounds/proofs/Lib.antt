@@ -1,0 +1,4 @@
+pub mod MentionLemmas
+pub mod TallyLemmas
+pub mod PlaceLemmas
+pub mod WithinLemmas
