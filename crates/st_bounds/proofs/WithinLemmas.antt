@@ -20,7 +20,7 @@ use Rattle.st_counts.proofs.TotalLemmas.{within_none}
 use Rattle.st_types.specs.Limits.{IsWithinLimits, IsSmallBody, proc_tally, thread_tally, tally_of}
 use Rattle.st_types.specs.Tallies.{all_of, tally_all}
 use Rattle.st_bounds.proofs.TallyLemmas.{body_counted, proc_checks, thread_checks, proc_names, thread_names}
-use Rattle.st_bounds.proofs.PlaceLemmas.{targets_are}
+use Rattle.st_bounds.proofs.PlaceLemmas.{targets_are, threads_have_names}
 
 small_proc : (procedure : Proc) → IsFewBody procedure → IsSmallBody procedure.params procedure.body
 small_proc procedure few =
@@ -60,4 +60,5 @@ within_limits text tokens p lexed spelled within =
       checks = few_checks p few.checks;
       arguments = few_names p (within_none excess counted at_start (items_of p) within);
       targets = targets_are spelled;
+      thread_names = threads_have_names text tokens p lexed spelled;
     }

@@ -1,0 +1,18 @@
+-- The errors of the stages, as those of a source.
+use Rattle.st_source.specs.Terms.{LexError, ParseError, TypeError, SourceError}
+use Rattle.st_source.specs.Terms.lex
+use Rattle.st_source.specs.Terms.parse
+use Rattle.st_source.specs.Terms.types
+use Rattle.st_source.specs.Terms.error
+
+abbrev pub lex_refusal : LexError → SourceError
+lex_refusal lex.Memory = error.Memory
+lex_refusal why = error.Lex why
+
+abbrev pub parse_refusal : ParseError → SourceError
+parse_refusal parse.Memory = error.Memory
+parse_refusal why = error.Parse why
+
+abbrev pub type_refusal : TypeError → SourceError
+type_refusal types.Memory = error.Memory
+type_refusal why = error.Types why
