@@ -1,0 +1,4 @@
+pub mod Accepted
+pub mod Building
+pub mod Command
+pub mod Numbers
