@@ -21,7 +21,7 @@ use Rattle.st_events.specs.Shape as shapes
 use Rattle.st_program.specs.declared.limits.TheConstants.{MOST_PARAMS}
 use Rattle.st_program.specs.Kinds.{Setting, HasKind}
 use Rattle.st_program.specs.Terms.{Routine, Program}
-use Rattle.st_program.specs.Views.{program_of}
+use Rattle.st_program.specs.Views.{check_of, program_of}
 use Rattle.st_program.specs.WellFormed as formed
 use Rattle.st_program.specs.WellFormed.{IsWellFormed, IsRightPredicate, IsRightRoutine, AreRightChecks}
 use Rattle.st_types.specs.declared.kinds.Found.{Found}
@@ -337,3 +337,23 @@ well_formed p h none =
 pub typed_well_formed : (t : TypedView) → IsTyped t → IsWellFormed t.shape (program_of t.resolved)
 typed_well_formed t h =
     subst (λ shape. IsWellFormed shape (program_of t.resolved)) (sym h.shaped) (subst (IsWellFormed (shape_of t.program)) (sym h.resolves) (well_formed t.program h.limits h.rules))
+
+-- it has the threads of its tree
+pub threads_are : (t : TypedView) → IsTyped t → length t.program.threads ≡ length (program_of t.resolved).threads
+unfolding resolution
+threads_are t h =
+    sym (ap (λ (q : Program). length q.threads) h.resolves ∙ routines_count (walk_thread t.program) [] (walked_procs t.program).checks t.program.threads)
+
+-- and its shape has the check statements of its resolution
+pub checks_are : (t : TypedView) → IsTyped t → length t.resolved.checks ≡ length t.shape.checks
+unfolding resolution shape_of
+checks_are t h =
+    let all = (walked_threads t.program).checks in
+    omega (
+      arith,
+      ap (λ (q : Program). length q.checks) h.resolves,
+      ap (λ (s : ShapeLists). length s.checks) h.shaped,
+      length-map t.resolved.checks check_of,
+      length-map all (λ (l : Launched). l.check),
+      length-map all (λ (l : Launched). l.kinds),
+    )

@@ -89,6 +89,7 @@ impl Typed {
     /// How many threads there are.
     pub fn threads(&self) -> u8
         ensures count { result ≡ length self.now.program.threads }
+        ensures resolved { result ≡ length (program_of self.now.resolved).threads }
         ensures few { result ≤ MOST_MUTATORS }
     {
         self.program.threads.len() as u8
@@ -106,6 +107,7 @@ impl Typed {
     /// How many check statements there are.
     pub fn checks(&self) -> u16
         ensures count { result ≡ length self.now.resolved.checks }
+        ensures shaped { result ≡ length self.now.shape.checks }
         ensures few { result ≤ MOST_CHECKS }
     {
         self.resolved.checks.len() as u16
