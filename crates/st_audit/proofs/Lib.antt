@@ -1,0 +1,9 @@
+pub mod BooksLemmas
+pub mod DifferenceLemmas
+pub mod EvaluationLemmas
+pub mod FindingLemmas
+pub mod JudgeLemmas
+pub mod LaunchLemmas
+pub mod ListLemmas
+pub mod MarkLemmas
+pub mod RoomLemmas

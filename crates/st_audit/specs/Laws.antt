@@ -1,0 +1,18 @@
+-- Laws of findings.
+use Rattle.std.specs.Prelude.{◌≡◌, List}
+use Rattle.st_events.specs.declared.events.Event.{Event}
+use Rattle.st_events.specs.declared.limits.Sizes.{Sizes}
+use Rattle.st_events.specs.declared.verdicts.Verdict.{Verdict}
+use Rattle.st_events.specs.Terms.{ShapeLists}
+use Rattle.st_program.specs.Terms.{Program}
+use Rattle.st_audit.specs.declared.findings.Finding.{Finding}
+use Rattle.st_audit.specs.declared.findings.Finding.TheVariants.{Memory}
+use Rattle.st_audit.specs.Findings.{IsRightJournal, IsFinding}
+
+-- a right journal has no finding but want of memory
+abbrev pub HaveNoneWhereRight : Type 0
+HaveNoneWhereRight =
+    (shape : ShapeLists) (p : Program) (sizes : Sizes) (es : List Event) (verdicts : List Verdict) (f : Finding)
+    → IsRightJournal shape p sizes es verdicts
+    → IsFinding shape p sizes es verdicts f
+    → f ≡ Memory

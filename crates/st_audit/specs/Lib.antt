@@ -1,0 +1,9 @@
+pub mod Balance
+pub mod Differences
+pub mod Evaluations
+pub mod Findings
+pub mod Heaps
+pub mod Judging
+pub mod Laws
+pub mod Ledgers
+pub mod Marks
