@@ -16,6 +16,7 @@ use crate::losses::marks_of;
 use crate::verdicts::{Wrong, first_wrong};
 use st_events::{Event, NoMemory, ReplayError, Shape, Sizes, Verdict, replay};
 use st_program::Resolved;
+use st_types::Typed;
 use std::alloc::Global;
 
 /// Whether the journal and its verdicts are right for the program: Ok exactly where they are, else the first finding. `Memory` may come wherever
@@ -38,6 +39,26 @@ pub fn audit_program(
     ensures right { IsRightJournal shape.now (program_of program.now) sizes.now events.now verdicts.now → (f : Finding) → result ≡ Err f → f ≡ Memory }
 {
     first_finding(alloc, shape, program, sizes, events, verdicts)
+}
+
+/// The same of a typed program, with its shape.
+pub fn audit(
+    alloc: Global,
+    typed: &Typed,
+    sizes: &Sizes,
+    events: &[Event],
+    verdicts: &[Verdict],
+) -> Result<(), Finding>
+    requires sizes { AreWithinLimits sizes.now }
+    requires events { length events.now < 2 ^ 32 }
+    requires verdicts { length verdicts.now < 2 ^ 32 }
+    ensures ok { OnOk result (IsRightJournal typed.now.shape (program_of typed.now.resolved) sizes.now events.now verdicts.now) }
+    ensures found { (f : Finding) → result ≡ Err f → IsFinding typed.now.shape (program_of typed.now.resolved) sizes.now events.now verdicts.now f }
+    ensures right { IsRightJournal typed.now.shape (program_of typed.now.resolved) sizes.now events.now verdicts.now → (f : Finding) → result ≡ Err f → f ≡ Memory }
+{
+    let shape = typed.shape();
+    let program = typed.resolved();
+    audit_program(alloc, shape, program, sizes, events, verdicts)
 }
 
 /// The first finding.
