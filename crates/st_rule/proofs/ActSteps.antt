@@ -10,13 +10,14 @@ use mathlib.Core.List.{IsPrefix}
 use prog.Atomic.{either}
 use Rattle.atomic_table.specs.Table.{State, Act, keeps, Valid, carried_after, stepped, Allows}
 use Rattle.atomic_table.proofs.Lists.{exchanged}
-use Rattle.st_layout.specs.Names.{WordName, ClosingWord, ClockWord, EpochWord, FlagWord, ClassWord, HeaderWord, ForwardWord, FieldWord, HasWord, cells_of}
+use Rattle.st_layout.specs.Names.{WordName, ClosingWord, ClockWord, EpochWord, AvailableWord, FlagWord, LaneWord, ClassWord, HeaderWord, ForwardWord, FieldWord}
+use Rattle.st_layout.specs.Names.{CopyWord, FreeWord, HasWord, cells_of}
 use Rattle.st_layout.specs.declared.limits.TheConstants.{MOST_FIELDS}
 use Rattle.st_layout.specs.Layout.{word_of}
-use Rattle.st_layout.specs.Packed.{packed}
+use Rattle.st_layout.specs.Packed.{packed, low_half}
 use Rattle.st_layout.proofs.Distinct.{words_distinct}
 use Rattle.st_events.specs.declared.events.Event.{Event}
-use Rattle.st_events.specs.World.{World, at}
+use Rattle.st_events.specs.World.{World, at, is_among}
 use Rattle.st_events.specs.Legal.{IsLegal}
 use Rattle.st_rule.specs.declared.views.Flight.{Flight}
 use Rattle.st_rule.specs.declared.views.Held.{Held}
@@ -28,19 +29,23 @@ use Rattle.st_rule.specs.declared.views.View.{View}
 use Rattle.st_rule.specs.declared.views.View.TheVariants.{Mut}
 use Rattle.st_rule.specs.Board.{Board, Displays, plan_of, written, same_name}
 use Rattle.st_rule.specs.Draws.{MayLock, MayUnlock, HasInHand, AwaitsField, AwaitsClass, IsNextOf}
-use Rattle.st_rule.specs.Holding.{Holds, IsNext, IsSetting, IsMaking, holding, shown_stamp, word_loaded}
+use Rattle.st_rule.specs.Holding.{Holds, IsNext, IsSetting, IsMaking, holding, flight_of, shown_stamp, word_loaded}
 use Rattle.st_rule.specs.Board.{stays_loaded}
 use Rattle.st_rule.specs.Parts.{Sits, HasLoaded, ObjectPart}
-use Rattle.st_rule.specs.Plays.{Seated, Becomes, Learns, LoadsBoard, Locks}
-use Rattle.st_rule.specs.Rule.{Told, Moment, HoldsAt, IsSoundTable, world_of}
+use Rattle.st_rule.specs.Plays.{Seated, Becomes, Learns, LoadsBoard, IsBoardWord, Locks}
+use Rattle.st_rule.specs.Rule.{Told, Moment, HoldsAt, IsSoundTable, world_of, flights_of, LanesAt, CopiesAt}
 use Rattle.st_rule.specs.Turns.{looked_last, board_loaded, locked_at, locked, unlocked, field_found, word_written, with_field, with_written, landed}
 use Rattle.st_rule.proofs.BoardLemmas.{plan_fits, load_displays, same_name_self}
-use Rattle.st_rule.proofs.ViewLemmas.{mut_is, at_here, at_else}
-use Rattle.st_rule.proofs.ReachLemmas.{may_stand, holder_fits, fresh_header, epoch_short}
+use Rattle.st_rule.proofs.ViewLemmas.{mut_is, at_here, at_else, at_same}
+use Rattle.st_rule.proofs.LaneLemmas.{lanes_settled, one_flight, none_among}
+use Rattle.st_rule.proofs.CopyLemmas.{ComesFrom, copies_kept}
+use Rattle.st_rule.proofs.ObjectLemmas.{flights_taken, flights_given}
+use Rattle.st_rule.specs.Versions.{LanePart, IsAwaiting}
+use Rattle.st_rule.proofs.ReachLemmas.{may_stand, holder_fits, fresh_header, epoch_short, sound as sound_world}
 use Rattle.st_rule.proofs.PackedLemmas.{packed_halves}
-use Rattle.st_rule.proofs.TurnLemmas.{StaysSeated, LeavesBoard}
+use Rattle.st_rule.proofs.TurnLemmas.{StaysSeated, StaysOnBoard, VersionsAt, leaves_board}
 use Rattle.st_rule.proofs.LoadedLemmas.{headers_fleet, classes_fleet, fields_fleet, written_quiet, same_loaded}
-use Rattle.st_rule.proofs.HoldLemmas.{objects_locked, objects_unlocked, objects_found, objects_stored, objects_classed, at_field}
+use Rattle.st_rule.proofs.HoldLemmas.{objects_locked, objects_unlocked, objects_found, objects_stored, objects_classed, at_field, field_elsewhere, holds_one, holds_none}
 use Rattle.st_rule.proofs.GateSteps.{becomes, learns, stays_of, found_is, store_fits, is_phase, acts_keep, still_keeps, phase_is, journal_legal, holds_inside}
 
 module _ (told : Told) (slots id : ℕ) (me : Seated) (v : MutView) (is : me.0 ≡ Mut v) where
@@ -64,6 +69,17 @@ module _ (told : Told) (slots id : ℕ) (me : Seated) (v : MutView) (is : me.0 �
         learns looked_last me v found m.journal w is refl (h.journal_part.prefixes id (Mut v) sits) (journal_legal told id v m s h sits) (h.journal_part.own id v sits),
       )
 
+  -- a lane word is 0, or the number of an active check
+  lane_short : (s : State Unit View) (m : Moment) (h : HoldsAt told m s.words s.views) (sits : Sits s.views id (Mut v)) (l : ℕ) → l < told.terms.sizes.lanes → m.board (LaneWord l) < 2 ^ 32
+  lane_short s m h sits l within = ⊎_elim
+      (λ none. omega (arith, none))
+      (λ active.
+      let most = ((sound_world told id v m s.words s.views h sits).active.launched (m.board (LaneWord l)) active).1 in
+      let epoch = h.board_part.epoch_is in
+      let short = epoch_short told id v m s.words s.views h sits in
+      omega (arith, most, epoch, short))
+      (h.board_part.idle l within)
+
   -- what was loaded of the board, with one word more
   more_loaded : (m : Moment) (words : List ℕ) (views : List View) (h : HoldsAt told m words views) (sits : Sits views id (Mut v)) (word : ℕ)
       → HasLoaded (plan_of told.terms.sizes) m.board (board_loaded word (get_or words word 0) v)
@@ -77,6 +93,15 @@ module _ (told : Told) (slots id : ℕ) (me : Seated) (v : MutView) (is : me.0 �
           some_is : {a b : ℕ} → Some a ≡ Some b → a ≡ b
           some_is e = cc
       here false other e = h.loaded_part.loaded id v sits name has keeps' found e
+
+  -- what a load of the board finds is within what it may be
+  board_word : (s : State Unit View) (m : Moment) (h : HoldsAt told m s.words s.views) (sits : Sits s.views id (Mut v)) (word : ℕ) → IsBoardWord told.terms.sizes word (get_or s.words word 0)
+  board_word s m h sits word = record {
+    epoch = λ here. subst (λ k. k < 2 ^ 32) (sym (found_is told id v m s.words s.views h sits word EpochWord here tt)) (epoch_short told id v m s.words s.views h sits);
+    lane = λ l within here. subst (λ k. k < 2 ^ 32) (sym (found_is told id v m s.words s.views h sits word (LaneWord l) here within)) (lane_short s m h sits l within);
+    available = λ here. subst (λ k. k ≤ told.terms.sizes.copies) (sym (found_is told id v m s.words s.views h sits word AvailableWord here tt)) h.copy_part.listed;
+    free = λ i within here. subst (λ k. k < told.terms.sizes.copies) (sym (found_is told id v m s.words s.views h sits word (FreeWord i) here within)) (h.copy_part.named i within);
+  }
 
   -- board load
   pub board_load_keeps : (word : ℕ) → Allows (IsSoundTable told) slots id me word (λ n. n) (LoadsBoard word me)
@@ -94,10 +119,9 @@ module _ (told : Told) (slots id : ℕ) (me : Seated) (v : MutView) (is : me.0 �
             (load_displays (plan_of told.terms.sizes) s.words m.board word h.displayed),
         record {
           becomes = becomes (board_loaded word) me v found is;
-          epoch = λ u e place.
+          fits = λ u e.
               let same = mut_is v u (sym is ∙ e) in
-              let here = place ∙ (λ i. word_of (plan_of (((λ k. (sym same k).terms) ∙ h.seating.told id v sits) i).sizes) EpochWord) in
-              subst (λ k. k < 2 ^ 32) (sym (found_is told id v m s.words s.views h sits word EpochWord here tt)) (epoch_short told id v m s.words s.views h sits);
+              subst (λ (t : Terms). IsBoardWord t.sizes word found) (sym (h.seating.told id v sits) ∙ ap (λ (x : MutView). x.terms) same) (board_word s m h sits word);
         },
       )
 
@@ -106,34 +130,85 @@ module _ (told : Told) (slots id : ℕ) (me : Seated) (v : MutView) (is : me.0 �
     abbrev n : ℕ
     n = v.gate.number
 
-    abbrev phases' : ℕ → Phase
+    abbrev pub phases' : ℕ → Phase
     phases' = at v.gate.number v.gate.phase m.phase
 
-    others : (k : ℕ) → k ≢ n → phases' k ≡ m.phase k
+    pub others : (k : ℕ) → k ≢ n → phases' k ≡ m.phase k
     others k other = at_else n v.gate.phase m.phase k other
 
-    inside_is : v.gate.phase ≡ Inside → phases' n ≡ Inside
+    pub inside_is : v.gate.phase ≡ Inside → phases' n ≡ Inside
     inside_is inside = at_here n v.gate.phase m.phase ∙ inside
 
     -- the same, with the words that it leaves, where one word is written that nobody keeps
-    holder_keeps :
+    pub holder_keeps :
         (w : MutView) → StaysSeated v w → w.gate ≡ v.gate → w.journal.seen ≡ v.journal.seen → w.board ≡ v.board
         → (hand : Option Held) → w.held ≡ hand
-        → (board' : Board) → LeavesBoard m.board board' → ((j : ℕ) → board' (FlagWord j) ≡ m.board (FlagWord j)) → board' ClosingWord ≡ m.board ClosingWord
+        → (board' : Board) → StaysOnBoard phases' m.board board' → ((j : ℕ) → board' (FlagWord j) ≡ m.board (FlagWord j)) → board' ClosingWord ≡ m.board ClosingWord
         → (holder' : ℕ → ℕ)
         → ObjectPart told.terms.sizes (world_of told.terms m) phases' (at n hand m.grip) holder' (λ o. board' (HeaderWord o)) (λ o. board' (ClassWord o))
         (λ o f. board' (FieldWord o f)) (λ o l. board' (ForwardWord o l))
+        → VersionsAt told m (flights_of (at n hand m.grip) holder') board'
         → (word value : ℕ) → Displays (plan_of told.terms.sizes) (set s.words word value) board'
         → IsSoundTable told (record { words = set s.words word value; homes = s.homes; views = set s.views id (Mut w) })
-    holder_keeps w stays same_gate same_seen same_board hand is_hand board' quiet flags closing holder' objects word value displays =
+    holder_keeps w stays same_gate same_seen same_board hand is_hand board' quiet flags closing holder' objects versions word value displays =
         let same_number = ap (λ g. g.number) same_gate in
         acts_keep told id v m s.words s.views h sits w stays same_gate (inl same_seen)
         (same_loaded (plan_of told.terms.sizes) m.board v w (ap (λ g. g.phase) same_gate) same_board (h.loaded_part.loaded id v sits))
         (at n hand m.grip) (ap (at n hand m.grip) same_number ∙ at_here n hand m.grip ∙ sym is_hand) (λ j other. at_else n hand m.grip j (λ e. other (e ∙ sym same_number)))
-        board' quiet flags closing holder'
+        board' (subst (λ g. StaysOnBoard (at g.number g.phase m.phase) m.board board') (sym same_gate) quiet) flags closing holder'
         (subst (λ g. ObjectPart told.terms.sizes (world_of told.terms m) (at g.number g.phase m.phase) (at n hand m.grip) holder' (λ o. board' (HeaderWord o))
         (λ o. board' (ClassWord o)) (λ o f. board' (FieldWord o f)) (λ o l. board' (ForwardWord o l))) (sym same_gate) objects)
+        versions
         (record { words = set s.words word value; homes = s.homes; views = set s.views id (Mut w) }) refl displays
+
+    -- what is in flight at each object
+    abbrev pub F : ℕ → Option Flight
+    F = flights_of m.grip m.holder
+
+    -- the same in flight everywhere
+    same_versions : (flight' : ℕ → Option Flight) → ((o : ℕ) → flight' o ≡ F o) → VersionsAt told m flight' m.board
+    same_versions flight' same = subst (λ (x : ℕ → Option Flight). VersionsAt told m x m.board) (λ i o. sym (same o) i) (h.lane_part, h.copy_part)
+
+    pub held_alone : (hand : Held) → v.held ≡ Some hand → (o : ℕ) → Holds (m.grip n) o → o ≡ hand.object
+    held_alone hand held o holds = sym (holds_one hand o (subst (λ g. Holds g o) (h.seating.grips id v sits ∙ held) holds))
+
+    pub flight_is : (hand : Held) → v.held ≡ Some hand → F hand.object ≡ hand.flight
+    flight_is hand held =
+        ap (λ j. flight_of (holding m.grip j)) ((h.object_part.named n hand.object).0 (record { held = hand; is = h.seating.grips id v sits ∙ held; object_is = refl }))
+        ∙ ap flight_of (h.seating.grips id v sits ∙ held)
+
+    -- each active check was launched before the change in flight
+    pub launched_before : (hand : Held) (x : Flight) → v.held ≡ Some hand → hand.flight ≡ Some x → (k : ℕ) → is_among (world_of told.terms m).active k ≡ true
+        → k ≤ (world_of told.terms m).stamp hand.object
+    launched_before hand x held flies k active =
+        let most = ((sound_world told id v m s.words s.views h sits).active.launched k active).1 in
+        subst (λ e. k ≤ e) (sym (h.object_part.flying n hand x (h.seating.grips id v sits ∙ held) flies).epoch) most
+
+    -- nothing is owed any more: the hand is empty, or the word of what was in flight is written
+    over_versions :
+        (hand : Held) → v.held ≡ Some hand → (x' : Option Flight) → (flight' : ℕ → Option Flight) → ((o : ℕ) → flight' o ≡ at hand.object x' F o)
+        → (board' : Board)
+        → ((o f : ℕ) → o ≢ hand.object → board' (FieldWord o f) ≡ m.board (FieldWord o f))
+        → ((l : ℕ) → IsAwaiting hand.flight l → ⊥)
+        → ((y : Flight) → x' ≡ Some y → (y.written ≡ true) × (y.awaiting ≡ []))
+        → ((f : ℕ) → board' (FieldWord hand.object f) ≡ m.board (FieldWord hand.object f))
+        ⊎ ((k : ℕ) → is_among (world_of told.terms m).active k ≡ true → k ≤ (world_of told.terms m).stamp hand.object)
+        → ComesFrom hand.flight x'
+        → LanePart told.terms.sizes (world_of told.terms m) (λ l. m.board (LaneWord l)) (m.board AvailableWord) flight' (λ o f. board' (FieldWord o f)) (λ o l. m.board (ForwardWord o l))
+        (λ c k. m.board (CopyWord c k)) (λ i. m.board (FreeWord i))
+        × CopiesAt told.terms.sizes (world_of told.terms m) m.board m.since flight'
+    over_versions hand held x' flight' is board' else' settled over shows comes =
+        let same = flight_is hand held in
+        subst (λ (x : ℕ → Option Flight).
+        LanePart told.terms.sizes (world_of told.terms m) (λ l. m.board (LaneWord l)) (m.board AvailableWord) x (λ o f. board' (FieldWord o f)) (λ o l. m.board (ForwardWord o l))
+        (λ c k. m.board (CopyWord c k)) (λ i. m.board (FreeWord i))
+        × CopiesAt told.terms.sizes (world_of told.terms m) m.board m.since x) (λ i o. sym (is o) i) (
+          lanes_settled told.terms.sizes (world_of told.terms m) (λ l. m.board (LaneWord l)) (m.board AvailableWord) F (λ o f. m.board (FieldWord o f)) (λ o l. m.board (ForwardWord o l))
+              (λ c k. m.board (CopyWord c k)) (λ i. m.board (FreeWord i)) h.lane_part hand.object x' (λ o f. board' (FieldWord o f)) else'
+              (λ l a. settled l (subst (λ z. IsAwaiting z l) same a)) over shows,
+          copies_kept told.terms.sizes (world_of told.terms m) (λ l. m.board (LaneWord l)) (m.board AvailableWord) (low_half (m.board ClockWord)) m.since F
+              (λ o l. m.board (ForwardWord o l)) (λ i. m.board (FreeWord i)) h.copy_part hand.object x' (subst (λ z. ComesFrom z x') (sym same) comes),
+        )
 
     -- lock, where the object was free
     locks :
@@ -152,20 +227,24 @@ module _ (told : Told) (slots id : ℕ) (me : Seated) (v : MutView) (is : me.0 �
         let free : m.holder object ≡ 0 = halves.1 in
         let is_stamp : stamp ≡ (world_of told.terms m).stamp object = sym halves.0 ∙ ap (λ k. shown_stamp (holding m.grip k) ((world_of told.terms m).stamp object)) free in
         holder_keeps w (stays_of v w refl refl refl refl refl) refl refl refl (Some (record { object = object; stamp = stamp; loaded = []; flight = None })) refl
-        (written (HeaderWord object) (packed stamp (suc v.gate.number)) m.board) (written_quiet (HeaderWord object) (packed stamp (suc v.gate.number)) m.board (headers_fleet object))
+        (written (HeaderWord object) (packed stamp (suc v.gate.number)) m.board) (leaves_board (written_quiet (HeaderWord object) (packed stamp (suc v.gate.number)) m.board (headers_fleet object)))
         (λ j. refl) refl (at object (suc n) m.holder)
         (objects_locked told.terms.sizes (world_of told.terms m) m.phase phases' m.grip m.holder (λ o. m.board (HeaderWord o)) (λ o. m.board (ClassWord o))
         (λ o f. m.board (FieldWord o f)) (λ o l. m.board (ForwardWord o l)) h.object_part n others object stamp (inside_is inside) (h.seating.grips id v sits ∙ empty) free is_stamp
         (may_stand told id v m s.words s.views h sits object may))
+        (same_versions (flights_of (at n (Some (record { object = object; stamp = stamp; loaded = []; flight = None })) m.grip) (at object (suc n) m.holder))
+        (λ o. flights_taken m.grip m.holder h.object_part.named n object (Some (record { object = object; stamp = stamp; loaded = []; flight = None }))
+        (λ p holds. absurd (holds_none p (subst (λ g. Holds g p) (h.seating.grips id v sits ∙ empty) holds))) o
+        ∙ at_same object None F o (ap (λ j. flight_of (holding m.grip j)) free)))
         word new
         (subst (λ x. Displays (plan_of told.terms.sizes) (set s.words word x) (written (HeaderWord object) (packed stamp (suc v.gate.number)) m.board)) (sym is_new)
         (store_fits told id v m s.words s.views h sits word (HeaderWord object) (packed stamp (suc v.gate.number)) is_word within))
 
     -- the hand as the rule has it
-    grip_is : (hand : Held) → v.held ≡ Some hand → m.grip n ≡ Some hand
+    pub grip_is : (hand : Held) → v.held ≡ Some hand → m.grip n ≡ Some hand
     grip_is hand held = h.seating.grips id v sits ∙ held
 
-    is_inside : (hand : Held) → v.held ≡ Some hand → v.gate.phase ≡ Inside
+    pub is_inside : (hand : Held) → v.held ≡ Some hand → v.gate.phase ≡ Inside
     is_inside hand held = holds_inside told id v m s.words s.views h sits hand.object (record { held = hand; is = held; object_is = refl })
 
     -- the stamp that an unlock gives is the object's
@@ -190,11 +269,17 @@ module _ (told : Told) (slots id : ℕ) (me : Seated) (v : MutView) (is : me.0 �
         let hand = may.has.hand in
         let value : ℕ = packed stamp 0 in
         holder_keeps w (stays_of v w refl refl refl refl refl) refl refl refl None refl
-        (written (HeaderWord hand.object) value m.board) (written_quiet (HeaderWord hand.object) value m.board (headers_fleet hand.object))
+        (written (HeaderWord hand.object) value m.board) (leaves_board (written_quiet (HeaderWord hand.object) value m.board (headers_fleet hand.object)))
         (λ j. refl) refl (at hand.object 0 m.holder)
         (objects_unlocked told.terms.sizes (world_of told.terms m) m.phase phases' m.grip m.holder (λ o. m.board (HeaderWord o)) (λ o. m.board (ClassWord o))
         (λ o f. m.board (FieldWord o f)) (λ o l. m.board (ForwardWord o l)) h.object_part n others hand (grip_is hand may.has.held) stamp
         (stamp_now object stamp may hand.flight refl) may.written)
+        (over_versions hand may.has.held None (flights_of (at n None m.grip) (at hand.object 0 m.holder))
+        (flights_given m.grip m.holder h.object_part.named n hand.object None (held_alone hand may.has.held)) m.board (λ o f other. refl)
+        (λ l a.
+        let owed = h.lane_part.owed hand.object l a.one (flight_is hand may.has.held ∙ a.flies) a.awaits in
+        let e : true ≡ false = sym (may.written a.one a.flies) ∙ owed.unwritten in absurd cc)
+        (λ y e. absurd cc) (inl (λ f. refl)) (λ y e. absurd cc))
         word new
         (subst (λ (x : ℕ × ℕ). Displays (plan_of told.terms.sizes) (set s.words word x.1) (written (HeaderWord x.0) value m.board)) (λ i. (may.has.object_is i, sym is_new i))
         (store_fits told id v m s.words s.views h sits word (HeaderWord object) value is_word within))
@@ -212,11 +297,29 @@ module _ (told : Told) (slots id : ℕ) (me : Seated) (v : MutView) (is : me.0 �
         found_is told id v m s.words s.views h sits word (FieldWord object f) is_word (within, few) ∙ ap (λ o. m.board (FieldWord o f)) has.object_is in
         holder_keeps w (stays_of v w refl refl refl refl refl) refl refl refl (Some (record hand { loaded = record { field = f; value = found } ∷ hand.loaded }))
         (ap (with_field f found) has.held)
-        m.board (λ p name keeps'. refl) (λ j. refl) refl (at hand.object (suc n) m.holder)
+        m.board (leaves_board (λ p name keeps'. refl)) (λ j. refl) refl (at hand.object (suc n) m.holder)
         (objects_found told.terms.sizes (world_of told.terms m) m.phase phases' m.grip m.holder (λ o. m.board (HeaderWord o)) (λ o. m.board (ClassWord o))
         (λ o f. m.board (FieldWord o f)) (λ o l. m.board (ForwardWord o l)) h.object_part n others hand (grip_is hand has.held) (inside_is (is_inside hand has.held)) f found is_found)
+        (same_versions (flights_of (at n (Some (record hand { loaded = record { field = f; value = found } ∷ hand.loaded })) m.grip) (at hand.object (suc n) m.holder))
+        (λ o. flights_taken m.grip m.holder h.object_part.named n hand.object (Some (record hand { loaded = record { field = f; value = found } ∷ hand.loaded }))
+        (held_alone hand has.held) o
+        ∙ at_same hand.object hand.flight F o (flight_is hand has.held)))
         word found
         (load_displays (plan_of told.terms.sizes) s.words m.board word h.displayed)
+
+    -- no lane awaits what is in flight
+    settled_by : (hand : Held) (y : Flight) → hand.flight ≡ Some y → y.awaiting ≡ [] → (l : ℕ) → IsAwaiting hand.flight l → ⊥
+    settled_by hand y flies none l a =
+        let same : y ≡ a.one = one_flight y a.one (sym flies ∙ a.flies) in
+        none_among l (ap (λ ns. is_among ns l) (sym none) ∙ ap (λ (z : Flight). is_among z.awaiting l) same ∙ a.awaits)
+
+    over_by : (y : Flight) → y.awaiting ≡ [] → (z : Flight) → Some (record y { written = true }) ≡ Some z → (z.written ≡ true) × (z.awaiting ≡ [])
+    over_by y none z e = let s : record y { written = true } ≡ z = one_flight (record y { written = true }) z e in
+        (ap (λ (t : Flight). t.written) (sym s), ap (λ (t : Flight). t.awaiting) (sym s) ∙ none)
+
+    comes_by : (hand : Held) (y : Flight) → hand.flight ≡ Some y → ComesFrom hand.flight (Some (record y { written = true }))
+    comes_by hand y flies z e = let s : record y { written = true } ≡ z = one_flight (record y { written = true }) z e in
+        (y, flies, ap (λ (t : Flight). t.index) (sym s), subst (λ k. y.built ≤ k) (ap (λ (t : Flight). t.built) s) (omega arith))
 
     stores :
         (word object f value new : ℕ) → word ≡ word_of (plan_of told.terms.sizes) (FieldWord object f)
@@ -230,11 +333,19 @@ module _ (told : Told) (slots id : ℕ) (me : Seated) (v : MutView) (is : me.0 �
         let y = awaits.flight in
         holder_keeps w (stays_of v w refl refl refl refl refl) refl refl refl (Some (record hand { loaded = []; flight = Some (record y { written = true }) }))
         (ap with_written awaits.has.held ∙ ap (λ x. Some (record hand { loaded = []; flight = landed x })) awaits.flies)
-        (written (FieldWord hand.object f) value m.board) (written_quiet (FieldWord hand.object f) value m.board (fields_fleet hand.object f))
+        (written (FieldWord hand.object f) value m.board) (leaves_board (written_quiet (FieldWord hand.object f) value m.board (fields_fleet hand.object f)))
         (λ j. refl) refl (at hand.object (suc n) m.holder)
         (objects_stored told.terms.sizes (world_of told.terms m) m.phase phases' m.grip m.holder (λ o. m.board (HeaderWord o)) (λ o. m.board (ClassWord o))
         (λ o f. m.board (FieldWord o f)) (λ o l. m.board (ForwardWord o l)) h.object_part n others hand (grip_is hand awaits.has.held)
         (inside_is (is_inside hand awaits.has.held)) y awaits.flies f value awaits.sets)
+        (over_versions hand awaits.has.held (Some (record y { written = true }))
+        (flights_of (at n (Some (record hand { loaded = []; flight = Some (record y { written = true }) })) m.grip) (at hand.object (suc n) m.holder))
+        (flights_taken m.grip m.holder h.object_part.named n hand.object (Some (record hand { loaded = []; flight = Some (record y { written = true }) }))
+        (held_alone hand awaits.has.held)) (written (FieldWord hand.object f) value m.board)
+        (λ o g other. field_elsewhere hand.object f value (λ o f. m.board (FieldWord o f)) o g other)
+        (settled_by hand y awaits.flies awaits.forwarded)
+        (over_by y awaits.forwarded)
+        (inr (launched_before hand y awaits.has.held awaits.flies)) (comes_by hand y awaits.flies))
         word new
         (subst (λ (x : ℕ × ℕ). Displays (plan_of told.terms.sizes) (set s.words word x.1) (written (FieldWord x.0 f) value m.board)) (λ i. (awaits.has.object_is i, sym is_new i))
         (store_fits told id v m s.words s.views h sits word (FieldWord object f) value is_word (within, few)))
@@ -251,11 +362,18 @@ module _ (told : Told) (slots id : ℕ) (me : Seated) (v : MutView) (is : me.0 �
         let y = awaits.flight in
         holder_keeps w (stays_of v w refl refl refl refl refl) refl refl refl (Some (record hand { loaded = []; flight = Some (record y { written = true }) }))
         (ap with_written awaits.has.held ∙ ap (λ x. Some (record hand { loaded = []; flight = landed x })) awaits.flies)
-        (written (ClassWord hand.object) c m.board) (written_quiet (ClassWord hand.object) c m.board (classes_fleet hand.object))
+        (written (ClassWord hand.object) c m.board) (leaves_board (written_quiet (ClassWord hand.object) c m.board (classes_fleet hand.object)))
         (λ j. refl) refl (at hand.object (suc n) m.holder)
         (objects_classed told.terms.sizes (world_of told.terms m) m.phase phases' m.grip m.holder (λ o. m.board (HeaderWord o)) (λ o. m.board (ClassWord o))
         (λ o f. m.board (FieldWord o f)) (λ o l. m.board (ForwardWord o l)) h.object_part n others hand (grip_is hand awaits.has.held)
         (inside_is (is_inside hand awaits.has.held)) y awaits.flies c awaits.making)
+        (over_versions hand awaits.has.held (Some (record y { written = true }))
+        (flights_of (at n (Some (record hand { loaded = []; flight = Some (record y { written = true }) })) m.grip) (at hand.object (suc n) m.holder))
+        (flights_taken m.grip m.holder h.object_part.named n hand.object (Some (record hand { loaded = []; flight = Some (record y { written = true }) }))
+        (held_alone hand awaits.has.held)) m.board (λ o f other. refl)
+        (settled_by hand y awaits.flies awaits.forwarded)
+        (over_by y awaits.forwarded)
+        (inl (λ f. refl)) (comes_by hand y awaits.flies))
         word new
         (subst (λ (x : ℕ × ℕ). Displays (plan_of told.terms.sizes) (set s.words word x.1) (written (ClassWord x.0) c m.board)) (λ i. (awaits.has.object_is i, sym is_new i))
         (store_fits told id v m s.words s.views h sits word (ClassWord object) c is_word within))

@@ -19,8 +19,9 @@ use Rattle.st_events.specs.Shape.{ShapeLists}
 use Rattle.st_events.specs.declared.limits.Sizes.{Sizes}
 use Rattle.st_rule.specs.declared.views.View.{View}
 use Rattle.st_rule.specs.declared.views.View.TheVariants.{Mut}
-use Rattle.st_rule.specs.Draws.{MayDraw, Suits, heap_seen, left_in_flight, with_flight}
+use Rattle.st_rule.specs.Draws.{MayDraw, Suits, heap_seen, left_in_flight}
 use Rattle.st_rule.specs.Holding.{Holds, field_loaded, word_or_zero}
+use Rattle.st_rule.specs.Needs.{needing_lanes}
 use Rattle.st_rule.specs.Parts.{Sits, ObjectPart}
 use Rattle.st_rule.specs.Rule.{Told, Moment, HoldsAt, world_of}
 use Rattle.st_rule.proofs.DrawEvents.{cell_stays, kind_stays, cell_word, change_leaves, new_leaves}
@@ -95,34 +96,34 @@ module _ (told : Told) (id : ℕ) (v : MutView) (m : Moment) (words : List ℕ) 
   legal_next (Retire t number) s = absurd s
 
   -- what the objects' words show afterwards
-  abbrev pub ObjectsAfter : Event → Type 0
-  ObjectsAfter e =
-      ObjectPart told.terms.sizes (next told.terms.shape told.terms.sizes w e) m.phase (at n (Some (record hand { flight = left_in_flight w.heap e })) m.grip)
+  abbrev pub ObjectsAfter : ℕ → Event → Type 0
+  ObjectsAfter index e =
+      ObjectPart told.terms.sizes (next told.terms.shape told.terms.sizes w e) m.phase (at n (Some (record hand { flight = left_in_flight w.heap (needing_lanes v hand) index e })) m.grip)
       (at hand.object (suc n) m.holder) (λ o. m.board (HeaderWord o)) (λ o. m.board (ClassWord o)) (λ o f. m.board (FieldWord o f)) (λ o l. m.board (ForwardWord o l))
 
-  pub objects_next : (e : Event) → Suits v hand e → ObjectsAfter e
-  objects_next (New t obj class) s =
+  pub objects_next : (index : ℕ) (e : Event) → Suits v hand e → ObjectsAfter index e
+  objects_next index (New t obj class) s =
       let is_next = next_is told id v m words views h sits obj s.2.next in
       let absent = next_absent told.terms.sizes w n obj (sound told id v m words views h sits).regions is_next in
-      subst (λ (x : ℕ × ℕ). ObjectsAfter (New x.0 x.1 class)) (λ i. (sym s.0 i, sym s.1 i))
+      subst (λ (x : ℕ × ℕ). ObjectsAfter index (New x.0 x.1 class)) (λ i. (sym s.0 i, sym s.1 i))
       (objects_new told.terms.sizes w m.phase m.phase m.grip m.holder (λ o. m.board (HeaderWord o)) (λ o. m.board (ClassWord o))
-      (λ o f. m.board (FieldWord o f)) (λ o l. m.board (ForwardWord o l)) h.object_part n (λ k other. refl) hand grip_is may.quiet is_inside told.terms.shape class
+      (λ o f. m.board (FieldWord o f)) (λ o l. m.board (ForwardWord o l)) h.object_part n (λ k other. refl) hand grip_is may.quiet is_inside told.terms.shape (needing_lanes v hand) index class
       (ap w.heap (sym s.1) ∙ absent))
-  objects_next (Load t obj f value) s =
+  objects_next index (Load t obj f value) s =
       objects_same told.terms.sizes w m.phase m.phase m.grip m.holder (λ o. m.board (HeaderWord o)) (λ o. m.board (ClassWord o))
       (λ o f. m.board (FieldWord o f)) (λ o l. m.board (ForwardWord o l)) h.object_part n (λ k other. refl) hand grip_is may.quiet is_inside
-  objects_next (Store t obj f value) s =
-      subst (λ (o : ℕ). ObjectsAfter (Store t o f value)) (sym s.1)
+  objects_next index (Store t obj f value) s =
+      subst (λ (o : ℕ). ObjectsAfter index (Store t o f value)) (sym s.1)
       (objects_store told.terms.sizes w m.phase m.phase m.grip m.holder (λ o. m.board (HeaderWord o)) (λ o. m.board (ClassWord o))
-      (λ o f. m.board (FieldWord o f)) (λ o l. m.board (ForwardWord o l)) h.object_part n (λ k other. refl) hand grip_is may.quiet is_inside told.terms.shape t f value
+      (λ o f. m.board (FieldWord o f)) (λ o l. m.board (ForwardWord o l)) h.object_part n (λ k other. refl) hand grip_is may.quiet is_inside told.terms.shape (needing_lanes v hand) index t f value
       (cell_now f s.2.cell))
-  objects_next (Cas t obj f expect value done) s =
-      subst (λ (o : ℕ). ObjectsAfter (Cas t o f expect value done)) (sym s.1)
+  objects_next index (Cas t obj f expect value done) s =
+      subst (λ (o : ℕ). ObjectsAfter index (Cas t o f expect value done)) (sym s.1)
       (objects_cas told.terms.sizes w m.phase m.phase m.grip m.holder (λ o. m.board (HeaderWord o)) (λ o. m.board (ClassWord o))
-      (λ o f. m.board (FieldWord o f)) (λ o l. m.board (ForwardWord o l)) h.object_part n (λ k other. refl) hand grip_is may.quiet is_inside told.terms.shape t f expect value done
+      (λ o f. m.board (FieldWord o f)) (λ o l. m.board (ForwardWord o l)) h.object_part n (λ k other. refl) hand grip_is may.quiet is_inside told.terms.shape (needing_lanes v hand) index t f expect value done
       (cell_now f s.2.cell))
-  objects_next (Launch t site number args) s = absurd s
-  objects_next (Retire t number) s = absurd s
+  objects_next index (Launch t site number args) s = absurd s
+  objects_next index (Retire t number) s = absurd s
 
 -- such an event changes neither the epoch nor the active checks
 pub epoch_same : (v : MutView) (x : Held) (shape : ShapeLists) (sizes : Sizes) (w : World) (e : Event) → Suits v x e → (next shape sizes w e).epoch ≡ w.epoch

@@ -17,7 +17,6 @@ use Rattle.st_events.specs.declared.events.Event.TheVariants.{New, Load, Store, 
 use Rattle.st_events.specs.History.{is_own, is_launch, epoch_of}
 use Rattle.st_events.specs.Legal.{IsLegal}
 use Rattle.st_events.specs.World.{World, world_after, next, at, is_among}
-use Rattle.st_events.proofs.CountLemmas.{epoch_counts_launches}
 use Rattle.st_events.proofs.LegalLemmas.{one_more_is_legal}
 use Rattle.st_events.proofs.WorldLemmas.{world_after_one_more}
 use Rattle.st_rule.specs.declared.views.Held.{Held}
@@ -29,12 +28,16 @@ use Rattle.st_rule.specs.declared.views.Terms.{Terms}
 use Rattle.st_rule.specs.declared.views.View.{View}
 use Rattle.st_rule.specs.declared.views.View.TheVariants.{Mut, Gone}
 use Rattle.st_rule.specs.Board.{Board, Displays, plan_of, written, same_name}
-use Rattle.st_rule.specs.Draws.{MayDraw, drew, with_flight, left_in_flight}
+use Rattle.st_rule.specs.Draws.{MayDraw, drew, drawn_hand, left_in_flight}
 use Rattle.st_rule.specs.Entries.{own_entries, charge_of, charge_of_all, charge_below}
 use Rattle.st_rule.specs.Board.{stays_loaded}
 use Rattle.st_rule.specs.Parts.{Sits, JournalPart, GatePart, BoardPart, LoadedPart, HasLoaded, ObjectPart, HandPart, IsJoined, Seating}
 use Rattle.st_rule.specs.Plays.{Seated, Learns, Draws}
-use Rattle.st_rule.specs.Rule.{Told, Moment, HoldsAt, IsSoundTable, world_of}
+use Rattle.st_rule.specs.Rule.{Told, Moment, HoldsAt, IsSoundTable, world_of, flights_of, LanesAt, CopiesAt}
+use Rattle.st_rule.specs.Needs.{needing_lanes, takes_copy, is_change, is_any}
+use Rattle.st_rule.proofs.NeedLemmas.{some_of, needs}
+use Rattle.st_rule.proofs.DrawVersions.{VersionsAfter, after_event, versions_drawn, copies_of}
+use Rattle.st_rule.proofs.ReachLemmas.{sound}
 use Rattle.st_rule.specs.Views.{seen_by, is_closer}
 use Rattle.st_rule.proofs.DrawEvents.{suits_own, suits_other}
 use Rattle.st_rule.proofs.DrawLegal.{legal_next, objects_next, epoch_same, active_same, mutator}
@@ -59,10 +62,6 @@ charge_is (Cas m obj field expect value done) = omega arith
 charge_is (Launch m number site args) = omega arith
 charge_is (Retire m number) = omega arith
 
--- the copies that a draw takes
-abbrev pub copies_of : Bool → ℕ
-copies_of copy = if copy then 1 else 0
-
 some_copy : (copy : Bool) (epoch : ℕ) → (copy ≡ true → 0 < epoch) → epoch ≡ 0 → copies_of copy ≡ 0
 some_copy true epoch launched none = absurd (let l : 0 < epoch = launched refl in omega (arith, l, none))
 some_copy false epoch launched none = refl
@@ -79,7 +78,10 @@ not_alone_fleets Closing other = refl
 not_alone_fleets Alone other = absurd (other refl)
 
 module _ (told : Told) (id : ℕ) (v : MutView) (m : Moment) (words : List ℕ) (views : List View) (h : HoldsAt told m words views) (sits : Sits views id (Mut v))
-    (event : Event) (copy : Bool) (may : MayDraw v event copy) (word : ℕ) (is_found : high_half word ≡ length m.journal) where
+    (event : Event) (copy : Bool) (may : MayDraw v event copy) (word : ℕ) (is_clock : word ≡ m.board ClockWord) where
+  is_found : high_half word ≡ length m.journal
+  is_found = ap high_half is_clock ∙ h.journal_part.tickets
+
   abbrev n : ℕ
   n = v.gate.number
 
@@ -207,16 +209,30 @@ module _ (told : Told) (id : ℕ) (v : MutView) (m : Moment) (words : List ℕ) 
         (h.gate_part.split_off id v sits) (λ j u differs there. h.gate_part.split_off j u there);
   }
 
-  -- the epoch that the seat has seen is at most the epoch
-  launched_before : 0 < epoch_of v.terms.shape v.terms.sizes v.journal.seen → 0 < before.epoch
-  launched_before some_seen =
-      let p = h.journal_part.prefixes id (Mut v) sits in
-      let seen = epoch_counts_launches v.terms.shape v.terms.sizes v.journal.seen in
-      let whole = epoch_counts_launches told.terms.shape told.terms.sizes m.journal in
-      let split : length (filter is_launch m.journal) ≡ length (filter is_launch v.journal.seen) + length (filter is_launch p.0) =
-      ap (λ es. length (filter is_launch es)) (sym p.1) ∙ ap length (filter-append is_launch v.journal.seen p.0)
-      ∙ length-append (filter is_launch v.journal.seen) (filter is_launch p.0) in
-      omega (arith, some_seen, seen, whole, split)
+  -- where a copy is drawn some check was launched
+  needs_launch : copy ≡ true → 0 < before.epoch
+  needs_launch drawn =
+      let any = if_takes event (needing_lanes v may.hand) (sym may.copied ∙ drawn) in
+      let l = some_of (needing_lanes v may.hand) any in
+      let r = needs told id v m words views h sits may.hand may.held may.quiet may.inside l.0 l.1 in
+      let most = (sound told id v m words views h sits).active.launched (m.board (LaneWord l.0)) r.1 in
+      let low = most.0 in
+      let high = most.1 in
+      omega (arith, low, high)
+    where
+      if_takes : (e : Event) (lanes : List ℕ) → takes_copy e lanes ≡ true → is_any lanes ≡ true
+      if_takes e lanes takes = cases (is_change e) takes
+        where
+          cases : (b : Bool) → (if b then is_any lanes else false) ≡ true → is_any lanes ≡ true
+          cases true t = t
+          cases false t = absurd cc
+
+  -- the parts on old versions
+  versions : VersionsAfter told m (after_event told m event) (flights_of (at n (Some (record may.hand { flight = left_in_flight before.heap (needing_lanes v may.hand) (low_half word) event })) m.grip)
+      (at may.hand.object (suc n) m.holder)) (written ClockWord (packed (high_half (m.board ClockWord) + 1) (low_half (m.board ClockWord) + copies_of copy)) m.board)
+  versions = versions_drawn told id v m words views h sits event copy may (low_half word) (ap low_half is_clock)
+      (packed (high_half (m.board ClockWord) + 1) (low_half (m.board ClockWord) + copies_of copy))
+      (low_packed (high_half (m.board ClockWord) + 1) (low_half (m.board ClockWord) + copies_of copy) low_fits)
 
   board_next : BoardPart told.terms.sizes after (board' EpochWord) (board' AvailableWord) (board' ClockWord) (λ l. board' (LaneWord l))
   board_next =
@@ -228,7 +244,7 @@ module _ (told : Told) (id : ℕ) (v : MutView) (m : Moment) (words : List ℕ) 
         idle = λ l within. ⊎_elim (λ none. inl none) (λ one. inr (ap (λ ns. is_among ns (m.board (LaneWord l))) active ∙ one)) (h.board_part.idle l within);
         unlaunched = λ none.
             let u = h.board_part.unlaunched (sym epoch ∙ none) in
-            let no_copy = some_copy copy before.epoch (λ drawn. launched_before (may.copied drawn)) (sym epoch ∙ none) in
+            let no_copy = some_copy copy before.epoch needs_launch (sym epoch ∙ none) in
             let low = low_packed (high_half (m.board ClockWord) + 1) (low_half (m.board ClockWord) + copies_of copy) low_fits in
             (u.0, low ∙ omega (arith, u.1, no_copy));
       }
@@ -264,27 +280,27 @@ module _ (told : Told) (id : ℕ) (v : MutView) (m : Moment) (words : List ℕ) 
   }
 
   abbrev flown : Option Held
-  flown = Some (record may.hand { flight = left_in_flight before.heap event })
+  flown = Some (record may.hand { flight = left_in_flight before.heap (needing_lanes v may.hand) (low_half word) event })
 
-  flown_is : w.held ≡ Some (record may.hand { flight = left_in_flight before.heap event })
-  flown_is = (λ i. with_flight (left_in_flight (world_after (h.seating.told id v sits i).shape (h.seating.told id v sits i).sizes m.journal).heap event) (may.held i))
+  flown_is : w.held ≡ Some (record may.hand { flight = left_in_flight before.heap (needing_lanes v may.hand) (low_half word) event })
+  flown_is = (λ i. drawn_hand v (world_after (h.seating.told id v sits i).shape (h.seating.told id v sits i).sizes m.journal).heap (low_half word) event (may.held i))
 
-  grip_here : at n (Some (record may.hand { flight = left_in_flight before.heap event })) m.grip w.gate.number ≡ w.held
-  grip_here = at_here n (Some (record may.hand { flight = left_in_flight before.heap event })) m.grip ∙ sym flown_is
+  grip_here : at n (Some (record may.hand { flight = left_in_flight before.heap (needing_lanes v may.hand) (low_half word) event })) m.grip w.gate.number ≡ w.held
+  grip_here = at_here n (Some (record may.hand { flight = left_in_flight before.heap (needing_lanes v may.hand) (low_half word) event })) m.grip ∙ sym flown_is
 
   abbrev pub drawn : Moment
   drawn = record m {
     board = written ClockWord (packed (high_half (m.board ClockWord) + 1) (low_half (m.board ClockWord) + copies_of copy)) m.board;
     journal = m.journal ++ event ∷ [];
-    grip = at v.gate.number (Some (record may.hand { flight = left_in_flight before.heap event })) m.grip;
+    grip = at v.gate.number (Some (record may.hand { flight = left_in_flight before.heap (needing_lanes v may.hand) (low_half word) event })) m.grip;
     holder = at may.hand.object (suc v.gate.number) m.holder;
   }
 
-  seating_next : Seating told.terms m.phase (at n (Some (record may.hand { flight = left_in_flight before.heap event })) m.grip) m.seat m.split views'
+  seating_next : Seating told.terms m.phase (at n (Some (record may.hand { flight = left_in_flight before.heap (needing_lanes v may.hand) (low_half word) event })) m.grip) m.seat m.split views'
   seating_next =
       let old = seating_after told m words views h id v w sits (record { terms = refl; number = refl; split = refl; joined = refl })
-      (at n (Some (record may.hand { flight = left_in_flight before.heap event })) m.grip) grip_here
-      (λ k differs. at_else n (Some (record may.hand { flight = left_in_flight before.heap event })) m.grip k differs) in
+      (at n (Some (record may.hand { flight = left_in_flight before.heap (needing_lanes v may.hand) (low_half word) event })) m.grip) grip_here
+      (λ k differs. at_else n (Some (record may.hand { flight = left_in_flight before.heap (needing_lanes v may.hand) (low_half word) event })) m.grip k differs) in
       record {
         phases = all_mut_set (λ j u. m.phase u.gate.number ≡ u.gate.phase) views id w (h.seating.phases id v sits) (λ j u differs there. h.seating.phases j u there);
         grips = old.grips;
@@ -308,9 +324,11 @@ module _ (told : Told) (id : ℕ) (v : MutView) (m : Moment) (words : List ℕ) 
     gate_part = gate_after;
     board_part = subst (λ x. BoardPart told.terms.sizes x (board' EpochWord) (board' AvailableWord) (board' ClockWord) (λ l. board' (LaneWord l))) (sym world_is) board_next;
     loaded_part = loaded_after;
-    object_part = subst (λ x. ObjectPart told.terms.sizes x m.phase (at n (Some (record may.hand { flight = left_in_flight before.heap event })) m.grip)
+    object_part = subst (λ x. ObjectPart told.terms.sizes x m.phase (at n (Some (record may.hand { flight = left_in_flight before.heap (needing_lanes v may.hand) (low_half word) event })) m.grip)
         (at may.hand.object (suc n) m.holder) (λ o. m.board (HeaderWord o)) (λ o. m.board (ClassWord o)) (λ o f. m.board (FieldWord o f)) (λ o l. m.board (ForwardWord o l)))
-        (sym world_is) (objects_next told id v m words views h sits event copy may event may.suits);
+        (sym world_is) (objects_next told id v m words views h sits event copy may (low_half word) event may.suits);
+    lane_part = subst (λ x. LanesAt told.terms.sizes x board' (flights_of drawn.grip drawn.holder)) (sym world_is) versions.0;
+    copy_part = subst (λ x. CopiesAt told.terms.sizes x board' m.since (flights_of drawn.grip drawn.holder)) (sym world_is) versions.1;
     hand_part = hands_after;
     seating = seating_next;
   }
@@ -328,18 +346,18 @@ module _ (told : Told) (slots id : ℕ) (me : Seated) (v : MutView) (is : me.0 �
       let found : ℕ = get_or s.words word 0 in
       let clock : found ≡ m.board ClockWord = found_is told id v m s.words s.views h sits word ClockWord is_word tt in
       let ticket : high_half found ≡ length m.journal = ap high_half clock ∙ h.journal_part.tickets in
-      let value : (found + k) % 2 ^ 64 ≡ new_clock told id v m s.words s.views h sits event copy may found ticket =
-      (λ i. (clock i + is_k i) % 2 ^ 64) ∙ clock_is told id v m s.words s.views h sits event copy may found ticket in
+      let value : (found + k) % 2 ^ 64 ≡ new_clock told id v m s.words s.views h sits event copy may found clock =
+      (λ i. (clock i + is_k i) % 2 ^ 64) ∙ clock_is told id v m s.words s.views h sits event copy may found clock in
       let w = drew event found m.journal v in (
         Mut w,
         keeps,
         tt,
         (
-          drawn told id v m s.words s.views h sits event copy may found ticket,
-          draw_holds told id v m s.words s.views h sits event copy may found ticket (set s.words word ((found + k) % 2 ^ 64))
+          drawn told id v m s.words s.views h sits event copy may found clock,
+          draw_holds told id v m s.words s.views h sits event copy may found clock (set s.words word ((found + k) % 2 ^ 64))
               (subst (λ x. Displays (plan_of told.terms.sizes) (set s.words word x)
-              (written ClockWord (new_clock told id v m s.words s.views h sits event copy may found ticket) m.board)) (sym value)
-              (store_fits told id v m s.words s.views h sits word ClockWord (new_clock told id v m s.words s.views h sits event copy may found ticket) is_word tt)),
+              (written ClockWord (new_clock told id v m s.words s.views h sits event copy may found clock) m.board)) (sym value)
+              (store_fits told id v m s.words s.views h sits word ClockWord (new_clock told id v m s.words s.views h sits event copy may found clock) is_word tt)),
         ),
         record {
           learns = learns (drew event) me v found m.journal w is refl (h.journal_part.prefixes id (Mut v) sits) (journal_legal told id v m s h sits) (h.journal_part.own id v sits);

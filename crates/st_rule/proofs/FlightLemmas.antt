@@ -15,7 +15,7 @@ use Rattle.st_rule.specs.declared.views.Flight.{Flight}
 use Rattle.st_rule.specs.declared.views.Held.{Held}
 use Rattle.st_rule.specs.declared.views.Phase.{Phase}
 use Rattle.st_rule.specs.declared.views.Phase.TheVariants.{Inside}
-use Rattle.st_rule.specs.Draws.{left_in_flight, with_flight}
+use Rattle.st_rule.specs.Draws.{left_in_flight, fresh_change, fresh_new}
 use Rattle.st_rule.specs.Holding.{Holds, IsNext, HasLanded, holding, flight_of, shown_stamp, shown_class, shown_field, sets_field, makes, field_loaded}
 use Rattle.st_rule.specs.Holding.{word_or_zero, class_or_zero}
 use Rattle.st_rule.specs.Parts.{ObjectPart, IsFlying}
@@ -99,26 +99,26 @@ module _ (sizes : Sizes) (world : World) (phase phase' : ℕ → Phase) (grip : 
       (change_shows world.heap h.object f value x cell unwritten old sets)
 
   pub objects_store :
-      (shape : ShapeLists) (m f value : ℕ) → IsSome (word_at world.heap h.object f)
-      → ObjectsWith (next shape sizes world (Store m h.object f value)) (left_in_flight world.heap (Store m h.object f value))
-  objects_store shape m f value cell =
-      objects_changed f value (record { event = Store m h.object f value; old = word_or_zero world.heap h.object f; written = false }) cell refl refl (λ g. refl) refl
+      (shape : ShapeLists) (lanes : List ℕ) (index m f value : ℕ) → IsSome (word_at world.heap h.object f)
+      → ObjectsWith (next shape sizes world (Store m h.object f value)) (left_in_flight world.heap lanes index (Store m h.object f value))
+  objects_store shape lanes index m f value cell =
+      objects_changed f value (fresh_change (Store m h.object f value) (word_or_zero world.heap h.object f) lanes index) cell refl refl (λ g. refl) refl
       (refl, change_lands world.heap h.object f value cell)
 
   pub objects_cas :
-      (shape : ShapeLists) (m f expect value : ℕ) (done : Bool) → IsSome (word_at world.heap h.object f)
-      → ObjectsWith (next shape sizes world (Cas m h.object f expect value done)) (left_in_flight world.heap (Cas m h.object f expect value done))
-  objects_cas shape m f expect value true cell =
-      objects_changed f value (record { event = Cas m h.object f expect value true; old = word_or_zero world.heap h.object f; written = false }) cell refl refl (λ g. refl) refl
+      (shape : ShapeLists) (lanes : List ℕ) (index m f expect value : ℕ) (done : Bool) → IsSome (word_at world.heap h.object f)
+      → ObjectsWith (next shape sizes world (Cas m h.object f expect value done)) (left_in_flight world.heap lanes index (Cas m h.object f expect value done))
+  objects_cas shape lanes index m f expect value true cell =
+      objects_changed f value (fresh_change (Cas m h.object f expect value true) (word_or_zero world.heap h.object f) lanes index) cell refl refl (λ g. refl) refl
       (refl, refl, change_lands world.heap h.object f value cell)
-  objects_cas shape m f expect value false cell = objects_same
+  objects_cas shape lanes index m f expect value false cell = objects_same
 
   -- a New
   pub objects_new :
-      (shape : ShapeLists) (c : ℕ) → world.heap h.object ≡ None
-      → ObjectsWith (next shape sizes world (New n h.object c)) (left_in_flight world.heap (New n h.object c))
-  objects_new shape c none =
-      objects_flown (next shape sizes world (New n h.object c)) (record { event = New n h.object c; old = 0; written = false }) (new_leaves shape sizes world n h.object c)
+      (shape : ShapeLists) (lanes : List ℕ) (index c : ℕ) → world.heap h.object ≡ None
+      → ObjectsWith (next shape sizes world (New n h.object c)) (left_in_flight world.heap lanes index (New n h.object c))
+  objects_new shape lanes index c none =
+      objects_flown (next shape sizes world (New n h.object c)) (fresh_new (New n h.object c)) (new_leaves shape sizes world n h.object c)
       (at_here h.object world.epoch world.stamp)
       (refl, ap (option_map (λ (x : Object). x.class)) (object_put_here world.heap h.object (fresh shape c)))
       (subst (λ (x : Option Object). IsSome x) (sym (object_put_here world.heap h.object (fresh shape c))) refl)

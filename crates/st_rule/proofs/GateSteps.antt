@@ -25,7 +25,7 @@ use Rattle.st_rule.specs.declared.views.Held.{Held}
 use Rattle.st_rule.specs.Entries.{own_entries}
 use Rattle.st_rule.specs.Holding.{Holds}
 use Rattle.st_rule.specs.Plays.{Seated, Becomes, Learns}
-use Rattle.st_rule.specs.Rule.{Told, Moment, HoldsAt, IsSoundTable, world_of}
+use Rattle.st_rule.specs.Rule.{Told, Moment, HoldsAt, IsSoundTable, world_of, flights_of}
 use Rattle.st_rule.specs.Turns.{no_board, flagged_in, looked_at, looked, flagged_out, took, took_gate, saw_flag, saw, gave_gate, closer_phase}
 use Rattle.st_rule.specs.Turns.{saw_below}
 use Rattle.std.proofs.lemmas.Bool.{both_ways}
@@ -33,7 +33,7 @@ use Rattle.st_rule.specs.Views.{flag_of, is_closer}
 use Rattle.st_rule.proofs.BoardLemmas.{plan_fits, load_displays, store_displays}
 use Rattle.st_rule.proofs.ViewLemmas.{mut_is, at_here, at_else, at_same}
 use Rattle.st_rule.proofs.PrefixLemmas.{prefix_self}
-use Rattle.st_rule.proofs.TurnLemmas.{StaysSeated, WordsTell, TurnsTo, LeavesBoard, turn_keeps}
+use Rattle.st_rule.proofs.TurnLemmas.{StaysSeated, WordsTell, TurnsTo, StaysOnBoard, VersionsAt, leaves_board, turn_keeps}
 use Rattle.st_rule.proofs.ObjectLemmas.{objects_turned}
 use Rattle.st_rule.proofs.LoadedLemmas.{flags_fleet, closing_fleets, written_quiet, stays_nowhere, nothing_loaded, same_loaded}
 use Rattle.st_rule.proofs.GateLemmas.{flag_written, words_kept, closing_taken, closing_given, closer_is, alone_saw_each}
@@ -112,27 +112,28 @@ module _ (told : Told) (id : ℕ) (v : MutView) (m : Moment) (words : List ℕ) 
     -- it keeps the rule where what it makes of the words and of the hand keeps the object part
     pub acts_keep :
         (grip' : ℕ → Option Held) → grip' w.gate.number ≡ w.held → ((j : ℕ) → j ≢ w.gate.number → grip' j ≡ m.grip j)
-        → (board' : Board) → LeavesBoard m.board board' → ((n : ℕ) → board' (FlagWord n) ≡ m.board (FlagWord n)) → board' ClosingWord ≡ m.board ClosingWord
+        → (board' : Board) → StaysOnBoard (at w.gate.number w.gate.phase m.phase) m.board board' → ((n : ℕ) → board' (FlagWord n) ≡ m.board (FlagWord n)) → board' ClosingWord ≡ m.board ClosingWord
         → (holder' : ℕ → ℕ)
         → ObjectPart told.terms.sizes (world_of told.terms m) (at w.gate.number w.gate.phase m.phase) grip' holder' (λ o. board' (HeaderWord o)) (λ o. board' (ClassWord o))
         (λ o f. board' (FieldWord o f)) (λ o l. board' (ForwardWord o l))
+        → VersionsAt told m (flights_of grip' holder') board'
         → (s' : State Unit View) → s'.views ≡ set views id (Mut w) → Displays (plan_of told.terms.sizes) s'.words board'
         → IsSoundTable told s'
-    acts_keep grip' here else' board' quiet flags closing holder' objects s' is_views displays =
+    acts_keep grip' here else' board' quiet flags closing holder' objects versions s' is_views displays =
         let kept = words_kept mutators w.gate.number w.gate.phase m.board m.phase tells (sym (ap flag_of phase_is)) (sym (ap is_closer phase_is)) in
         let tell : WordsTell mutators board' (at w.gate.number w.gate.phase m.phase) = record {
           flags = λ n within. flags n ∙ kept.flags n within;
           closer = λ n within. subst (λ c. (is_closer (at w.gate.number w.gate.phase m.phase n) ≡ true) ↔ (c ≡ n + 1)) (sym closing) (kept.closer n within);
           nobody_closes = subst (λ c. (c ≡ 0) ⊎ ((n : ℕ) × (n ≤ mutators) × (c ≡ n + 1))) (sym closing) kept.nobody_closes;
         } in
-        turn_keeps told m words views h id v w sits stays.put grip' here else' still seen stays.entries board' quiet tell holder' objects s' is_views displays
+        turn_keeps told m words views h id v w sits stays.put grip' here else' still seen stays.entries board' quiet tell holder' objects versions s' is_views displays
 
     -- and where it leaves the words and the hand
     pub still_keeps : w.held ≡ v.held → (s' : State Unit View) → s'.views ≡ set views id (Mut w) → Displays (plan_of told.terms.sizes) s'.words m.board → IsSoundTable told s'
     still_keeps same_held s' is_views displays =
         let inside : (o : ℕ) → Holds w.held o → w.gate.phase ≡ Inside = λ o holds. same_phase ∙ holds_inside o (subst (λ g. Holds g o) same_held holds) in
-        acts_keep m.grip (grip_kept w stays same_held inside) (λ j other. refl) m.board (λ p name keeps. refl) (λ n. refl) refl m.holder
-        (objects_kept w stays same_held inside) s' is_views displays
+        acts_keep m.grip (grip_kept w stays same_held inside) (λ j other. refl) m.board (leaves_board (λ p name keeps. refl)) (λ n. refl) refl m.holder
+        (objects_kept w stays same_held inside) (h.lane_part, h.copy_part) s' is_views displays
 
 -- the view that the seat has, where the step may also show it more of the journal
 abbrev pub learns :
@@ -190,10 +191,10 @@ module _ (told : Told) (id : ℕ) (v : MutView) (m : Moment) (s : State Unit Vie
         → IsSoundTable told (record { words = set s.words word value; homes = s.homes; views = set s.views id (Mut w) })
     flag_keeps word value is_word is_value was_out = turn_keeps told m s.words s.views h id v w sits stays.put
         m.grip (grip_kept told id v m s.words s.views h sits w stays same_held none_inside) (λ j other. refl) quiet (inl (ap (λ j. j.seen) same_journal)) stays.entries
-        (written (FlagWord w.gate.number) value m.board) (written_quiet (FlagWord w.gate.number) value m.board (flags_fleet w.gate.number))
+        (written (FlagWord w.gate.number) value m.board) (leaves_board (written_quiet (FlagWord w.gate.number) value m.board (flags_fleet w.gate.number)))
         (flag_written told.terms.sizes.mutators w.gate.number w.gate.phase m.board m.phase (tells told id v m s.words s.views h sits) value is_value
         (out ∙ sym was_out ∙ ap is_closer (sym (is_phase told id v m s.words s.views h sits)) ∙ ap (λ n. is_closer (m.phase n)) (sym stays.put.number)))
-        m.holder (objects_kept told id v m s.words s.views h sits w stays same_held none_inside)
+        m.holder (objects_kept told id v m s.words s.views h sits w stays same_held none_inside) (h.lane_part, h.copy_part)
         (record { words = set s.words word value; homes = s.homes; views = set s.views id (Mut w) }) refl
         (store_fits told id v m s.words s.views h sits word (FlagWord w.gate.number) value
         (is_word ∙ ap (λ n. word_of (plan_of told.terms.sizes) (FlagWord n)) (sym stays.put.number))
@@ -267,9 +268,9 @@ module _ (told : Told) (slots id : ℕ) (me : Seated) (v : MutView) (is : me.0 �
       } in
       let stays = stays_of v w refl refl refl refl refl in
       turn_keeps told m s.words s.views h id v w sits stays.put
-      m.grip (grip_kept told id v m s.words s.views h sits w stays refl (λ o holds. refl)) (λ j other. refl) turns (inl refl) stays.entries m.board (λ p name keeps. refl)
+      m.grip (grip_kept told id v m s.words s.views h sits w stays refl (λ o holds. refl)) (λ j other. refl) turns (inl refl) stays.entries m.board (leaves_board (λ p name keeps. refl))
       (words_kept told.terms.sizes.mutators v.gate.number Inside m.board m.phase (tells told id v m s.words s.views h sits) (ap flag_of (sym before)) (ap is_closer (sym before)))
-      m.holder (objects_kept told id v m s.words s.views h sits w stays refl (λ o holds. refl))
+      m.holder (objects_kept told id v m s.words s.views h sits w stays refl (λ o holds. refl)) (h.lane_part, h.copy_part)
       (record { words = set s.words word (get_or s.words word 0); homes = s.homes; views = set s.views id (Mut w) }) refl
       (load_displays (plan_of told.terms.sizes) s.words m.board word h.displayed)
   looks_as s m h sits word is_word entering false is_open =
@@ -366,8 +367,8 @@ module _ (told : Told) (slots id : ℕ) (me : Seated) (v : MutView) (is : me.0 �
         keeps,
         tt,
         turn_keeps told m s.words s.views h id v w sits stays.put m.grip (grip_kept told id v m s.words s.views h sits w stays refl none) (λ j other. refl) turns (inr refl) stays.entries
-            (written ClosingWord (v.gate.number + 1) m.board) (written_quiet ClosingWord (v.gate.number + 1) m.board closing_fleets) tell
-            m.holder (objects_kept told id v m s.words s.views h sits w stays refl none)
+            (written ClosingWord (v.gate.number + 1) m.board) (leaves_board (written_quiet ClosingWord (v.gate.number + 1) m.board closing_fleets)) tell
+            m.holder (objects_kept told id v m s.words s.views h sits w stays refl none) (h.lane_part, h.copy_part)
             (record { words = set s.words word new; homes = s.homes; views = set s.views id (Mut w) }) refl
             (subst (λ x. Displays (plan_of told.terms.sizes) (set s.words word x) (written ClosingWord (v.gate.number + 1) m.board)) (sym is_new)
             (store_fits told id v m s.words s.views h sits word ClosingWord (v.gate.number + 1) is_word tt)),
@@ -417,9 +418,9 @@ module _ (told : Told) (slots id : ℕ) (me : Seated) (v : MutView) (is : me.0 �
         keeps,
         tt,
         turn_keeps told m s.words s.views h id v w sits stays.put m.grip (grip_kept told id v m s.words s.views h sits w stays refl none) (λ j other. refl) turns (inr refl) stays.entries
-            m.board (λ p name keeps. refl)
+            m.board (leaves_board (λ p name keeps. refl))
             (words_kept mutators v.gate.number w.gate.phase m.board m.phase (tells told id v m s.words s.views h sits) (says.1 ∙ ap flag_of (sym before)) (says.0 ∙ ap is_closer (sym before)))
-            m.holder (objects_kept told id v m s.words s.views h sits w stays refl none)
+            m.holder (objects_kept told id v m s.words s.views h sits w stays refl none) (h.lane_part, h.copy_part)
             (record { words = set s.words word found; homes = s.homes; views = set s.views id (Mut w) }) refl
             (load_displays (plan_of told.terms.sizes) s.words m.board word h.displayed),
         learns (saw n) me v found m.journal w is (ap (λ b. saw_flag b n found m.journal v) (sym (eq-eqb found 0 is_zero)))
@@ -460,9 +461,9 @@ module _ (told : Told) (slots id : ℕ) (me : Seated) (v : MutView) (is : me.0 �
         tt,
         turn_keeps told m s.words s.views h id v w sits stays.put m.grip (grip_kept told id v m s.words s.views h sits w stays refl none) (λ j other. refl)
             (quiet told id v m s h sits w stays refl refl refl (λ e. absurd cc) empty) (inl refl) stays.entries
-            (written ClosingWord 0 m.board) (written_quiet ClosingWord 0 m.board closing_fleets)
+            (written ClosingWord 0 m.board) (leaves_board (written_quiet ClosingWord 0 m.board closing_fleets))
             (closing_given told.terms.sizes.mutators v.gate.number Outside m.board m.phase (tells told id v m s.words s.views h sits) mine (ap flag_of (sym before)) refl)
-            m.holder (objects_kept told id v m s.words s.views h sits w stays refl none)
+            m.holder (objects_kept told id v m s.words s.views h sits w stays refl none) (h.lane_part, h.copy_part)
             (record { words = set s.words word value; homes = s.homes; views = set s.views id (Mut w) }) refl
             (subst (λ x. Displays (plan_of told.terms.sizes) (set s.words word x) (written ClosingWord 0 m.board)) (sym is_value)
             (store_fits told id v m s.words s.views h sits word ClosingWord 0 is_word tt)),

@@ -10,7 +10,8 @@ use Rattle.st_layout.specs.Packed.{packed}
 use Rattle.st_events.specs.declared.events.Event.{Event}
 use Rattle.st_events.specs.declared.events.Event.TheVariants.{New, Load, Store, Cas, Launch, Retire}
 use Rattle.st_events.specs.declared.limits.Sizes.{Sizes}
-use Rattle.st_events.specs.Heap.{Heap, word_at, class_at}
+use Rattle.st_events.specs.Heap.{Heap, Object, word_of, word_at, class_at}
+use Rattle.std.specs.Option.{option_map}
 use Rattle.st_events.specs.World.{World, at}
 use Rattle.st_rule.specs.declared.views.Flight.{Flight}
 use Rattle.st_rule.specs.declared.views.Held.{Held}
@@ -282,6 +283,20 @@ module _ (sizes : Sizes) (world : World) (phase phase' : ℕ → Phase) (grip : 
       flies_on z e = let same : over ≡ z = cc e in let old = part.flying n h y is flies in
           record { epoch = old.epoch; landed = subst (λ (w : Flight). HasLanded world.heap h.object w.event) same old.landed }
 
+      -- a step that leaves the event, its old word and whether the word is written
+      pub objects_reflown : (z : Flight) → z.event ≡ y.event → z.old ≡ y.old → z.written ≡ y.written
+          → ObjectPart sizes world phase' (at n (Some (record h { flight = Some z })) grip) (at h.object (suc n) holder) header class field forward
+      objects_reflown z event old written =
+          keeps_handles (record h { flight = Some z }) refl refl inside class field
+          (class_shown ∙ (λ i. if makes (sym event i) && not (sym written i) then 0 else class_or_zero world.heap h.object))
+          (λ g. field_shown g ∙ (λ i. if sets_field (sym event i) g && not (sym written i) then sym old i else word_or_zero world.heap h.object g))
+          (λ o other. refl) (λ o g other. refl) (λ none. absurd cc)
+          (λ x e. let same : z ≡ x = cc e in let was = part.flying n h y is flies in record {
+            epoch = was.epoch;
+            landed = subst (λ (e : Event). HasLanded world.heap h.object e) (sym event ∙ ap (λ (x : Flight). x.event) same) was.landed;
+          })
+          (λ g x e. part.loaded n h is g x e)
+
       -- field store
       pub objects_stored :
           (f value : ℕ) → IsSetting y.event f value
@@ -309,3 +324,31 @@ module _ (sizes : Sizes) (world : World) (phase phase' : ℕ → Phase) (grip : 
           (at_here h.object c class ∙ sym (ap (λ o. unwrap_or o 0) lands) ∙ sym (no_old (makes y.event) 0 (class_or_zero world.heap h.object)))
           (λ g. field_shown g ∙ rw (making_sets c y.event making g) refl)
           (λ o other. at_else h.object c class o other) (λ o g other. refl) (λ none. absurd cc) flies_on (λ g x e. absurd cc)
+
+-- what is in flight has its object in the heap
+pub landed_there : (heap : Heap) (object : ℕ) (e : Event) → HasLanded heap object e → heap object ≡ None → ⊥
+landed_there heap object (New m obj class) l none = absurd (let e : None ≡ Some class = sym (ap (λ (x : Option Object). option_map (λ (y : Object). y.class) x) none) ∙ l.1 in cc)
+landed_there heap object (Load m obj field x) l none = absurd l
+landed_there heap object (Store m obj field x) l none = absurd (let e : None ≡ Some x = sym (ap (λ (z : Option Object). word_of z field) none) ∙ l.1 in cc)
+landed_there heap object (Cas m obj field expect x done) l none = absurd (let e : None ≡ Some x = sym (ap (λ (z : Option Object). word_of z field) none) ∙ l.2 in cc)
+landed_there heap object (Launch m site number args) l none = absurd l
+landed_there heap object (Retire m number) l none = absurd l
+
+-- a forwarding word is written
+pub objects_forwarded :
+    (sizes : Sizes) (world : World) (phase : ℕ → Phase) (grip : ℕ → Option Held) (holder header class : ℕ → ℕ) (field forward forward' : ℕ → ℕ → ℕ)
+    → ((object lane : ℕ) → world.heap object ≡ None → forward' object lane ≡ 0)
+    → ObjectPart sizes world phase grip holder header class field forward
+    → ObjectPart sizes world phase grip holder header class field forward'
+objects_forwarded sizes world phase grip holder header class field forward forward' unmade part = record {
+  only_inside = part.only_inside;
+  named = part.named;
+  headers = part.headers;
+  stamps = part.stamps;
+  classes = part.classes;
+  fields = part.fields;
+  flying = part.flying;
+  loaded = part.loaded;
+  stands = part.stands;
+  unmade = unmade;
+}

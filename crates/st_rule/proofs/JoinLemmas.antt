@@ -181,6 +181,8 @@ module _ (told : Told) (id : ℕ) (v : MutView) (other : ℕ) (u : MutView) (m :
     board_part = h.board_part;
     loaded_part = loaded_joined;
     object_part = h.object_part;
+    lane_part = h.lane_part;
+    copy_part = h.copy_part;
     hand_part = hands_joined;
     seating = seating_joined;
   }

@@ -23,3 +23,9 @@ pub mod JoinLemmas
 pub mod EndLemmas
 pub mod StartLemmas
 pub mod WordLemmas
+pub mod LaneLemmas
+pub mod CopyLemmas
+pub mod NeedLemmas
+pub mod PoolLemmas
+pub mod DrawVersions
+pub mod BarrierSteps

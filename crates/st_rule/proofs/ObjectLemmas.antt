@@ -18,7 +18,32 @@ use Rattle.st_rule.specs.declared.views.Phase.{Phase}
 use Rattle.st_rule.specs.declared.views.Phase.TheVariants.{Inside}
 use Rattle.st_rule.specs.Holding.{Holds, IsNext, HasLanded, holding, flight_of, shown_stamp, shown_class, shown_field, field_loaded, word_or_zero, class_or_zero}
 use Rattle.st_rule.specs.Parts.{ObjectPart, IsFlying}
+use Rattle.st_rule.specs.Rule.{flights_of}
 use Rattle.st_rule.proofs.ViewLemmas.{at_here, at_else}
+
+module _ (grip : ℕ → Option Held) (holder : ℕ → ℕ) (named : (k o : ℕ) → Holds (grip k) o ↔ (holder o ≡ suc k)) (n object : ℕ) (hand : Option Held)
+    (was : (o : ℕ) → Holds (grip n) o → o ≡ object) where
+  -- what is in flight elsewhere is as before
+  flights_else : (low o : ℕ) → o ≢ object → flights_of (at n hand grip) (at object low holder) o ≡ flights_of grip holder o
+  flights_else low o other = ap (λ j. flight_of (holding (at n hand grip) j)) (at_else object low holder o other) ∙ by_holder (holder o) refl
+    where
+      by_holder : (j : ℕ) → holder o ≡ j → flight_of (holding (at n hand grip) j) ≡ flight_of (holding grip j)
+      by_holder zero names = refl
+      by_holder (suc k) names = ap flight_of (at_else n hand grip k (λ same. other (was o ((named n o).1 (names ∙ ap suc same)))))
+
+  -- the number holds the object afterwards
+  pub flights_taken : (o : ℕ) → flights_of (at n hand grip) (at object (suc n) holder) o ≡ at object (flight_of hand) (flights_of grip holder) o
+  flights_taken o = dite (ℕ_discrete o object)
+      (λ here. ap (flights_of (at n hand grip) (at object (suc n) holder)) here ∙ ap (λ j. flight_of (holding (at n hand grip) j)) (at_here object (suc n) holder)
+      ∙ ap flight_of (at_here n hand grip) ∙ sym (at_here object (flight_of hand) (flights_of grip holder)) ∙ ap (at object (flight_of hand) (flights_of grip holder)) (sym here))
+      (λ other. flights_else (suc n) o other ∙ sym (at_else object (flight_of hand) (flights_of grip holder) o other))
+
+  -- nobody holds it
+  pub flights_given : (o : ℕ) → flights_of (at n hand grip) (at object 0 holder) o ≡ at object None (flights_of grip holder) o
+  flights_given o = dite (ℕ_discrete o object)
+      (λ here. ap (flights_of (at n hand grip) (at object 0 holder)) here ∙ ap (λ j. flight_of (holding (at n hand grip) j)) (at_here object 0 holder)
+      ∙ sym (at_here object None (flights_of grip holder)) ∙ ap (at object None (flights_of grip holder)) (sym here))
+      (λ other. flights_else 0 o other ∙ sym (at_else object None (flights_of grip holder) o other))
 
 -- what events of number m on one object leave of the world: the heap and the stamps elsewhere, the epoch, what other numbers made
 pub record LeavesElsewhere (before after : World) (m object : ℕ) : Type 0 where

@@ -7,7 +7,7 @@ use Rattle.std.proofs.lemmas.List.Elements.{filter-append}
 use mathlib.Core.List.{IsPrefix}
 use Rattle.atomic_table.specs.Table.{State, Allows}
 use Rattle.st_layout.specs.declared.plans.Plan.{Plan}
-use Rattle.st_layout.specs.Names.{EpochWord, HeaderWord, FieldWord, cells_of}
+use Rattle.st_layout.specs.Names.{EpochWord, HeaderWord, FieldWord, ForwardWord, cells_of}
 use Rattle.st_layout.specs.Layout.{word_of, first_cell}
 use Rattle.st_layout.specs.Packed.{packed, high_half}
 use Rattle.st_events.specs.declared.events.Event.{Event}
@@ -21,14 +21,17 @@ use Rattle.st_rule.specs.declared.views.MutView.{MutView}
 use Rattle.st_rule.specs.declared.views.View.{View}
 use Rattle.st_rule.specs.declared.views.View.TheVariants.{Mut}
 use Rattle.st_rule.specs.Board.{plan_of}
-use Rattle.st_rule.specs.Draws.{MayDraw, MayLock, HasInHand, Suits, IsNextOf, drew, with_flight}
+use Rattle.st_rule.specs.Draws.{MayDraw, MayLock, HasInHand, Suits, IsNextOf, drew, drawn_hand, left_in_flight}
 use Rattle.st_rule.specs.Entries.{own_entries, charge_of, charge_of_all, news_of, news_among, charge_spent, objects_made, whole_charge, whole_region}
-use Rattle.st_rule.specs.Plays.{Seated, Becomes, Learns, Finds, FindsAndLearns, LoadsBoard, FindsBoard, Locks, LocksWhere, FindsField, FindsLock, Draws, FindsAndDraws}
+use Rattle.st_rule.specs.Plays.{Seated, Becomes, Learns, Finds, FindsAndLearns, LoadsBoard, FindsBoard, IsBoardWord, Locks, LocksWhere, FindsField, StoresForward, FindsLock, Draws, FindsAndDraws}
 use Rattle.st_rule.specs.SeatValue.{IsFairView, KeepsSeat}
-use Rattle.st_rule.specs.Turns.{looked_last, board_loaded, locked, locked_at, unlocked, field_found, word_written, with_field, with_written, object_of_header, field_of_word}
+use Rattle.st_rule.specs.Turns.{looked_last, board_loaded, locked, locked_at, unlocked, field_found, word_written, copy_stored, forwarded, with_field, with_written, with_built}
+use Rattle.st_rule.specs.Turns.{with_forward, object_of_header, field_of_word, lane_of_word}
 use Rattle.st_rule.specs.Views.{mutator_of}
 use mir.Val.{bool_byte}
-use Rattle.st_rule.proofs.DrawSteps.{copies_of}
+use Rattle.st_rule.proofs.DrawVersions.{copies_of}
+use Rattle.st_rule.specs.Needs.{HasFlight, needing_lanes}
+use Rattle.st_events.specs.Heap.{Heap}
 use Rattle.st_rule.proofs.DrawEvents.{suits_own}
 use Rattle.st_rule.proofs.EntryLemmas.{entry, own_more, charge_more}
 use Rattle.st_rule.proofs.SeatLemmas.{Steady, fair_after, held_same, seat_kept, kept_with, changed_at, learned_at}
@@ -43,6 +46,10 @@ header_tells plan object place is = omega (arith, is)
 field_tells : (plan : Plan) (object field place : ℕ) → place ≡ word_of plan (FieldWord object field) → field_of_word plan object place ≡ field
 unfolding word_of
 field_tells plan object field place is = omega (arith, is)
+
+lane_tells : (plan : Plan) (object lane place : ℕ) → place ≡ word_of plan (ForwardWord object lane) → lane_of_word plan object place ≡ lane
+unfolding word_of
+lane_tells plan object lane place is = omega (arith, is)
 
 -- what a step may tell more
 pub allows_more :
@@ -95,6 +102,26 @@ pub field_finds :
 field_finds field place word me after v h is held is_place finds =
     subst (λ f. Becomes (field_found f) me word after) (field_tells (plan_of v.terms.sizes) h.object field place is_place) (finds.finds v h is held)
 
+pub stores_forward :
+    (lane place word : ℕ) (me after : Seated) (v : MutView) (h : Held) → me.0 ≡ Mut v → v.held ≡ Some h
+    → place ≡ word_of (plan_of v.terms.sizes) (ForwardWord h.object lane)
+    → Becomes (λ _ u. forwarded lane u) me word after → StoresForward place me word after
+stores_forward lane place word me after v h is held is_place becomes = record {
+  stores = λ u x e held'. subst (λ l. Becomes (λ _ u. forwarded l u) me word after)
+      (let same = mut_is v u (sym is ∙ e) in
+      let hand : h ≡ x = some_one h x (sym held ∙ ap (λ (y : MutView). y.held) same ∙ held') in
+      sym (lane_tells (plan_of u.terms.sizes) x.object lane place
+      (is_place ∙ (λ i. word_of (plan_of (same i).terms.sizes) (ForwardWord (hand i).object lane)))))
+      becomes;
+}
+
+pub forward_stores :
+    (lane place word : ℕ) (me after : Seated) (v : MutView) (h : Held) → me.0 ≡ Mut v → v.held ≡ Some h
+    → place ≡ word_of (plan_of v.terms.sizes) (ForwardWord h.object lane)
+    → StoresForward place me word after → Becomes (λ _ u. forwarded lane u) me word after
+forward_stores lane place word me after v h is held is_place stores =
+    subst (λ l. Becomes (λ _ u. forwarded l u) me word after) (lane_tells (plan_of v.terms.sizes) h.object lane place is_place) (stores.stores v h is held)
+
 -- a copy is one
 pub byte_copies : (copy : Bool) → bool_byte copy ≡ copies_of copy
 byte_copies true = refl
@@ -117,14 +144,26 @@ written_hand count None old h e = absurd cc
 written_hand count (Some x) old h e = let s = some_one (record x { loaded = []; flight = _ }) h e in subst (λ (k : ℕ). k < count) (ap (λ (y : Held). y.object) s) (old x refl)
 
 flown_hand :
-    (flight : Option Flight) (count : ℕ) (hand : Option Held)
-    → ((h : Held) → hand ≡ Some h → h.object < count) → (h : Held) → with_flight flight hand ≡ Some h → h.object < count
-flown_hand flight count None old h e = absurd cc
-flown_hand flight count (Some x) old h e = subst (λ (y : Held). y.object < count) (some_one (record x { flight = flight }) h e) (old x refl)
+    (v : MutView) (heap : Heap) (index : ℕ) (event : Event) (count : ℕ) (hand : Option Held)
+    → ((h : Held) → hand ≡ Some h → h.object < count) → (h : Held) → drawn_hand v heap index event hand ≡ Some h → h.object < count
+flown_hand v heap index event count None old h e = absurd cc
+flown_hand v heap index event count (Some x) old h e =
+    subst (λ (y : Held). y.object < count) (some_one (record x { flight = left_in_flight heap (needing_lanes v x) index event }) h e) (old x refl)
+
+built_hand : (count : ℕ) (hand : Option Held) → ((h : Held) → hand ≡ Some h → h.object < count) → (h : Held) → with_built hand ≡ Some h → h.object < count
+built_hand count None old h e = absurd cc
+built_hand count (Some x) old h e = let s = some_one (record x { flight = _ }) h e in subst (λ (k : ℕ). k < count) (ap (λ (y : Held). y.object) s) (old x refl)
+
+forward_hand : (lane count : ℕ) (hand : Option Held) → ((h : Held) → hand ≡ Some h → h.object < count) → (h : Held) → with_forward lane hand ≡ Some h → h.object < count
+forward_hand lane count None old h e = absurd cc
+forward_hand lane count (Some x) old h e = let s = some_one (record x { flight = _ }) h e in subst (λ (k : ℕ). k < count) (ap (λ (y : Held). y.object) s) (old x refl)
 
 -- what a seat has in hand has a cell
 pub hand_within : (v : MutView) (object : ℕ) → IsFairView v → HasInHand v object → object < cells_of (plan_of v.terms.sizes)
 hand_within v object fair has = subst (λ k. k < cells_of (plan_of v.terms.sizes)) (sym has.object_is) (fair.held_within has.hand has.held)
+
+pub flight_within : (v : MutView) (object : ℕ) → IsFairView v → (has : HasFlight v) → object ≡ has.hand.object → object < cells_of (plan_of v.terms.sizes)
+flight_within v object fair has is = subst (λ k. k < cells_of (plan_of v.terms.sizes)) (sym is) (fair.held_within has.hand has.held)
 
 -- ---- what the seat's struct keeps
 
@@ -154,6 +193,14 @@ module _ {before : Seated} {number spare room capacity : ℕ} {entries : List En
     written_kept word becomes = kept_with keeps (λ _ u. word_written u) word becomes (steady (word_written v) refl refl refl) refl
         (written_hand (cells_of (plan_of v.terms.sizes)) v.held keeps.fair.held_within)
 
+    pub built_kept : (word : ℕ) → Becomes (λ _ u. copy_stored u) before word after → KeepsSeat after number spare room entries capacity
+    built_kept word becomes = kept_with keeps (λ _ u. copy_stored u) word becomes (steady (copy_stored v) refl refl refl) refl
+        (built_hand (cells_of (plan_of v.terms.sizes)) v.held keeps.fair.held_within)
+
+    pub forwarded_kept : (lane word : ℕ) → Becomes (λ _ u. forwarded lane u) before word after → KeepsSeat after number spare room entries capacity
+    forwarded_kept lane word becomes = kept_with keeps (λ _ u. forwarded lane u) word becomes (steady (forwarded lane v) refl refl refl) refl
+        (forward_hand lane (cells_of (plan_of v.terms.sizes)) v.held keeps.fair.held_within)
+
     pub last_kept : (word : ℕ) → Learns looked_last before word after → KeepsSeat after number spare room entries capacity
     last_kept word learns =
         let w = looked_last word learns.seen v in
@@ -166,7 +213,7 @@ module _ {before : Seated} {number spare room capacity : ℕ} {entries : List En
     board_found place word loads old same = record {
       word = word;
       view = ap mutator_of (loads.becomes.view v is) ∙ ap (board_loaded place word) same;
-      epoch = λ here. loads.epoch v is (here ∙ ap (λ (x : MutView). word_of (plan_of x.terms.sizes) EpochWord) (sym same));
+      fits = subst (λ (x : MutView). IsBoardWord x.terms.sizes place word) same (loads.fits v is);
     }
 
     -- lock, as contracts see it
@@ -206,7 +253,7 @@ module _ {before : Seated} {number spare room capacity : ℕ} {entries : List En
         legal = draws.legal v is;
         own = own_more v.gate.number draws.learns.seen event (suits_own v may.hand event may.suits)
             ∙ (λ i. draws.learns.own v is i ++ entry (sym draws.ticket i) event ∷ []);
-        held_within = flown_hand _ (cells_of (plan_of v.terms.sizes)) v.held keeps.fair.held_within;
+        held_within = flown_hand v _ _ event (cells_of (plan_of v.terms.sizes)) v.held keeps.fair.held_within;
       }
 
       charge_left : spare + charge_spent v ≡ v.terms.sizes.events

@@ -194,6 +194,8 @@ module _ (told : Told) (id : ℕ) (v : MutView) (m : Moment) (words : List ℕ) 
     board_part = h.board_part;
     loaded_part = loaded_split;
     object_part = h.object_part;
+    lane_part = h.lane_part;
+    copy_part = h.copy_part;
     hand_part = hands_split;
     seating = seating_split;
   }

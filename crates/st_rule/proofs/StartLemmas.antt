@@ -89,7 +89,7 @@ module _ (told : Told) (fits : AreWithinLimits told.terms.sizes) (shape_fits : I
   v = first_view told.terms
 
   abbrev m : Moment
-  m = record { board = first_board (plan_of told.terms.sizes); journal = []; phase = λ _. Outside; grip = λ _. None; holder = λ _. 0; seat = λ _. 0; split = 0 }
+  m = record { board = first_board (plan_of told.terms.sizes); journal = []; phase = λ _. Outside; grip = λ _. None; holder = λ _. 0; seat = λ _. 0; split = 0; since = 0 }
 
   pub start_sound : IsSoundTable told (opening words [] (Mut (first_view told.terms)))
   start_sound = (
@@ -129,6 +129,24 @@ module _ (told : Told) (fits : AreWithinLimits told.terms.sizes) (shape_fits : I
       };
       loaded_part = record { loaded = only_mut (λ id u. HasLoaded (plan_of told.terms.sizes) m.board u) v (nothing_loaded (plan_of told.terms.sizes) m.board v refl) };
       object_part = start_objects told.terms.shape told.terms.sizes;
+      lane_part = record {
+        lanes = λ l object launch within active. absurd cc;
+        epochs = λ object l. omega arith;
+        owed = λ object l x flies. absurd cc;
+        built = λ object x flies. absurd cc;
+      };
+      copy_part = record {
+        some_left = λ few. omega arith;
+        none_left = λ none. let c : told.terms.sizes.copies ≤ 0 = none in omega (arith, c);
+        listed = omega arith;
+        since_then = omega arith;
+        named = λ i below. below;
+        once = λ i j from below also under same. same;
+        indexes = λ object x i flies. absurd cc;
+        differ = λ o p x y i flies. absurd cc;
+        spares_free = λ object l c named. absurd (let e : false ≡ true = named.active in cc);
+        spares_built = λ object l c named. absurd (let e : false ≡ true = named.active in cc);
+      };
       hand_part = record { joined = only_mut (λ id u. All (IsJoined m.seat 0 [] (Mut v ∷ []) u.journal.seen) u.hands.joined) v (λ k d within. absurd (omega (arith, within))) };
       seating = record {
         phases = only_mut (λ id u. Outside ≡ u.gate.phase) v refl;

@@ -22,7 +22,8 @@ use Rattle.st_rule.specs.Board.{Board, Displays, plan_of}
 use Rattle.st_rule.specs.Board.{stays_loaded}
 use Rattle.st_rule.specs.Parts.{Sits, JournalPart, GatePart, BoardPart, LoadedPart, HasLoaded, ObjectPart, HandPart, IsJoined, Seating}
 use Rattle.atomic_table.specs.Table.{State}
-use Rattle.st_rule.specs.Rule.{Told, Moment, HoldsAt, IsSoundTable, world_of}
+use Rattle.st_rule.specs.Rule.{Told, Moment, HoldsAt, IsSoundTable, world_of, flights_of, LanesAt, CopiesAt}
+use Rattle.st_rule.specs.declared.views.Flight.{Flight}
 use Rattle.st_rule.specs.Entries.{own_entries}
 use Rattle.st_rule.specs.Views.{seen_by, flag_of, is_closer}
 use Rattle.st_rule.proofs.ViewLemmas.{set_there, sits_once, mut_is, gone_is_no_mutator, all_set, all_mut_set, at_here, at_else}
@@ -58,6 +59,20 @@ pub record TurnsTo (m : Moment) (sizes : Sizes) (w : MutView) : Type 0 where
 -- the board's words, and those that only who is alone keeps, are as before
 abbrev pub LeavesBoard : Board → Board → Type 0
 LeavesBoard before after = (p : Phase) (name : WordName) → stays_loaded p name ≡ true → after name ≡ before name
+
+-- the clock, the board's words, and those that some number may keep in its phase, are as before
+pub record StaysOnBoard (phase : ℕ → Phase) (before after : Board) : Type 0 where
+  pub clock : after ClockWord ≡ before ClockWord
+  pub board : (name : WordName) → stays_loaded Inside name ≡ true → after name ≡ before name
+  pub loaded : (n : ℕ) (name : WordName) → stays_loaded (phase n) name ≡ true → after name ≡ before name
+
+pub leaves_board : {phase : ℕ → Phase} {before after : Board} → LeavesBoard before after → StaysOnBoard phase before after
+leaves_board leaves = record { clock = leaves Alone ClockWord refl; board = λ name keeps. leaves Inside name keeps; loaded = λ n name keeps. leaves _ name keeps }
+
+-- the parts on old versions, for what is in flight at each object and these words
+abbrev pub VersionsAt : Told → Moment → (ℕ → Option Flight) → Board → Type 0
+VersionsAt told m flight board =
+    LanesAt told.terms.sizes (world_of told.terms m) board flight × CopiesAt told.terms.sizes (world_of told.terms m) board m.since flight
 
 -- what was joined is still a prefix of a longer list, and nobody has sat down where a joined seat was
 pub joined_still :
@@ -185,11 +200,12 @@ module _ (told : Told) (m : Moment) (words : List ℕ) (views : List View) (h : 
         (λ whole. ap (own_entries w.gate.number 0) whole ∙ own_same)
         seen
 
-    module _ (board' : Board) (quiet : LeavesBoard m.board board') (tell : WordsTell told.terms.sizes.mutators board' phases') (holder' : ℕ → ℕ)
+    module _ (board' : Board) (quiet : StaysOnBoard phases' m.board board') (tell : WordsTell told.terms.sizes.mutators board' phases') (holder' : ℕ → ℕ)
         (objects : ObjectPart told.terms.sizes (world_of told.terms m) phases' grip' holder' (λ o. board' (HeaderWord o)) (λ o. board' (ClassWord o))
-        (λ o f. board' (FieldWord o f)) (λ o l. board' (ForwardWord o l))) where
+        (λ o f. board' (FieldWord o f)) (λ o l. board' (ForwardWord o l)))
+        (versions : VersionsAt told m (flights_of grip' holder') board') where
       same_clock : board' ClockWord ≡ m.board ClockWord
-      same_clock = quiet Alone ClockWord refl
+      same_clock = quiet.clock
 
       journal_after : JournalPart told.terms m.journal (board' ClockWord) m.split views'
       journal_after = record {
@@ -208,19 +224,23 @@ module _ (told : Told) (m : Moment) (words : List ℕ) (views : List View) (h : 
 
       board_after : BoardPart told.terms.sizes (world_of told.terms m) (board' EpochWord) (board' AvailableWord) (board' ClockWord) (λ l. board' (LaneWord l))
       board_after =
-          let lane_is : (l : ℕ) → board' (LaneWord l) ≡ m.board (LaneWord l) = λ l. quiet Inside (LaneWord l) refl in
+          let lane_is : (l : ℕ) → board' (LaneWord l) ≡ m.board (LaneWord l) = λ l. quiet.board (LaneWord l) refl in
           record {
-            epoch_is = quiet Inside EpochWord refl ∙ h.board_part.epoch_is;
+            epoch_is = quiet.board EpochWord refl ∙ h.board_part.epoch_is;
             lanes = λ n active. let l = h.board_part.lanes n active in (l.0, l.1, lane_is l.0 ∙ l.2, λ k within same. l.3 k within (sym (lane_is k) ∙ same));
             idle = λ l within. ⊎_elim (λ none. inl (lane_is l ∙ none)) (λ one. inr (ap (is_among (world_of told.terms m).active) (lane_is l) ∙ one)) (h.board_part.idle l within);
-            unlaunched = λ none. let u = h.board_part.unlaunched none in (quiet Inside AvailableWord refl ∙ u.0, ap low_half same_clock ∙ u.1);
+            unlaunched = λ none. let u = h.board_part.unlaunched none in (quiet.board AvailableWord refl ∙ u.0, ap low_half same_clock ∙ u.1);
           }
 
       loaded_after : LoadedPart (plan_of told.terms.sizes) board' views'
       loaded_after = record {
         loaded = all_mut_set (λ j u. HasLoaded (plan_of told.terms.sizes) board' u) views id w
-            (λ name has keeps word found. quiet w.gate.phase name keeps ∙ turns.loaded name has keeps word found)
-            (λ j u other there name has keeps word found. quiet u.gate.phase name keeps ∙ h.loaded_part.loaded j u there name has keeps word found);
+            (λ name has keeps word found. quiet.loaded w.gate.number name (ap (λ p. stays_loaded p name) (at_here w.gate.number w.gate.phase m.phase) ∙ keeps)
+            ∙ turns.loaded name has keeps word found)
+            (λ j u other there name has keeps word found.
+            quiet.loaded u.gate.number name
+            (ap (λ p. stays_loaded p name) (at_else w.gate.number w.gate.phase m.phase u.gate.number (apart j u other there) ∙ h.seating.phases j u there) ∙ keeps)
+            ∙ h.loaded_part.loaded j u there name has keeps word found);
       }
 
       -- a number that another closer saw clear did not go Inside at this turn: the closing word was not 0
@@ -263,6 +283,8 @@ module _ (told : Told) (m : Moment) (words : List ℕ) (views : List View) (h : 
         board_part = board_after;
         loaded_part = loaded_after;
         object_part = objects;
+        lane_part = versions.0;
+        copy_part = versions.1;
         hand_part = hands_after;
         seating = seating_after;
       }

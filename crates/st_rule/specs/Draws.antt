@@ -1,11 +1,11 @@
 -- Which events a seat may draw, by its own view, and what a draw makes of the view.
 use Rattle.std.specs.Prelude.{◌≡◌, ℕ, ◌+◌, ◌<◌, ◌≤◌, ◌⊎◌, ◌==◌, Bool, true, false, if◌then◌else◌, List, [], ◌∷◌, ◌++◌, length, Option, Some}
 use Rattle.std.specs.Prelude.{None, IsSome}
-use Rattle.st_layout.specs.Packed.{high_half}
+use Rattle.st_layout.specs.Packed.{high_half, low_half}
 use Rattle.st_events.specs.declared.events.Event.{Event}
 use Rattle.st_events.specs.declared.events.Event.TheVariants.{New, Load, Store, Cas, Launch, Retire}
 use Rattle.st_events.specs.Heap.{Heap, word_at}
-use Rattle.st_events.specs.History.{heap_after, epoch_of}
+use Rattle.st_events.specs.History.{heap_after}
 use Rattle.st_events.specs.Legal.{fits_cell}
 use Rattle.st_rule.specs.declared.views.Flight.{Flight}
 use Rattle.st_rule.specs.declared.views.Held.{Held}
@@ -16,6 +16,7 @@ use Rattle.st_layout.specs.Layout.{word_of, words_of}
 use Rattle.st_layout.specs.Names.{WordName, EpochWord, HasWord}
 use Rattle.st_rule.specs.Board.{plan_of, stays_loaded}
 use Rattle.st_rule.specs.Holding.{field_loaded, word_loaded, word_or_zero, IsSetting, IsMaking}
+use Rattle.st_rule.specs.Needs.{KnowsNeed, needing_lanes, is_change, takes_copy, index_for}
 use Rattle.st_rule.specs.Turns.{counted_with}
 
 -- the heap as far as the view has seen it
@@ -79,12 +80,13 @@ pub record MayUnlock (v : MutView) (object stamp : ℕ) : Type 0 where
   pub written : (x : Flight) → has.hand.flight ≡ Some x → x.written ≡ true
   pub epoch : (x : Flight) → has.hand.flight ≡ Some x → word_loaded v.board.loaded (word_of (plan_of v.terms.sizes) EpochWord) ≡ Some stamp
 
--- a holder may write the field that its change in flight sets
+-- a holder may write the field that its change in flight sets, once each lane that needs the old version was forwarded
 pub record AwaitsField (v : MutView) (object field value : ℕ) : Type 0 where
   pub has : HasInHand v object
   pub flight : Flight
   pub flies : has.hand.flight ≡ Some flight
   pub sets : IsSetting flight.event field value
+  pub forwarded : flight.awaiting ≡ []
 
 -- a holder may write the class of the object that its New in flight makes
 pub record AwaitsClass (v : MutView) (object class : ℕ) : Type 0 where
@@ -92,6 +94,7 @@ pub record AwaitsClass (v : MutView) (object class : ℕ) : Type 0 where
   pub flight : Flight
   pub flies : has.hand.flight ≡ Some flight
   pub making : IsMaking flight.event class
+  pub forwarded : flight.awaiting ≡ []
 
 -- a seat that is inside may load the board's words, and one that is alone each word of the table
 pub record MayLoadBoard (v : MutView) (word : ℕ) : Type 0 where
@@ -100,8 +103,8 @@ pub record MayLoadBoard (v : MutView) (word : ℕ) : Type 0 where
       ((v.gate.phase ≡ Inside) × (name : WordName) × HasWord (plan_of v.terms.sizes) name × (stays_loaded Inside name ≡ true) × (word ≡ word_of (plan_of v.terms.sizes) name))
       ⊎ (v.gate.phase ≡ Alone)
 
--- a mutator that is inside and holds the object, with nothing in flight and enough charge left, may draw the event. It draws a copy's
--- index too only where a check was launched, since else none is needed
+-- a mutator that is inside and holds the object, with nothing in flight and enough charge left, may draw the event. With a change it draws a
+-- copy's index too, exactly where some lane needs the old version, of which it knows
 pub record MayDraw (v : MutView) (event : Event) (copy : Bool) : Type 0 where
   pub inside : v.gate.phase ≡ Inside
   pub mutator : v.gate.number < v.terms.sizes.mutators
@@ -110,27 +113,38 @@ pub record MayDraw (v : MutView) (event : Event) (copy : Bool) : Type 0 where
   pub held : v.held ≡ Some hand
   pub quiet : hand.flight ≡ None
   pub suits : Suits v hand event
-  pub copied : copy ≡ true → 0 < epoch_of v.terms.shape v.terms.sizes v.journal.seen
+  pub known : is_change event ≡ true → KnowsNeed v hand
+  pub copied : copy ≡ takes_copy event (needing_lanes v hand)
 
--- what a draw leaves in flight, where the heap was this one: a change, and the word that it takes the place of, or a New
-abbrev pub left_in_flight : Heap → Event → Option Flight
-left_in_flight heap (New m obj class) = Some (record { event = New m obj class; old = 0; written = false })
-left_in_flight heap (Load m obj field value) = None
-left_in_flight heap (Store m obj field value) = Some (record { event = Store m obj field value; old = word_or_zero heap obj field; written = false })
-left_in_flight heap (Cas m obj field expect value done) =
-    if done then Some (record { event = Cas m obj field expect value done; old = word_or_zero heap obj field; written = false }) else None
-left_in_flight heap (Launch m site number args) = None
-left_in_flight heap (Retire m number) = None
+-- a change just drawn, which takes the place of this word: these lanes await its old version, and of the copy nothing is written
+abbrev pub fresh_change : Event → (old : ℕ) → List ℕ → (index : ℕ) → Flight
+fresh_change event old lanes index =
+    record { event = event; old = old; written = false; awaiting = lanes; index = index_for lanes index; built = 0 }
 
--- the hand with this in flight
-abbrev pub with_flight : Option Flight → Option Held → Option Held
-with_flight flight None = None
-with_flight flight (Some h) = Some (record h { flight = flight })
+-- a New just drawn
+abbrev pub fresh_new : Event → Flight
+fresh_new event = record { event = event; old = 0; written = false; awaiting = []; index = None; built = 0 }
+
+-- what a draw leaves in flight, where the heap was this one, these lanes need the old version, and this was the copy part of the clock: a change,
+-- and the word that it takes the place of, or a New
+abbrev pub left_in_flight : Heap → List ℕ → ℕ → Event → Option Flight
+left_in_flight heap lanes index (New m obj class) = Some (fresh_new (New m obj class))
+left_in_flight heap lanes index (Load m obj field value) = None
+left_in_flight heap lanes index (Store m obj field value) = Some (fresh_change (Store m obj field value) (word_or_zero heap obj field) lanes index)
+left_in_flight heap lanes index (Cas m obj field expect value done) =
+    if done then Some (fresh_change (Cas m obj field expect value done) (word_or_zero heap obj field) lanes index) else None
+left_in_flight heap lanes index (Launch m site number args) = None
+left_in_flight heap lanes index (Retire m number) = None
+
+-- the hand with what the draw leaves in flight
+abbrev pub drawn_hand : MutView → Heap → ℕ → Event → Option Held → Option Held
+drawn_hand v heap index event None = None
+drawn_hand v heap index event (Some h) = Some (record h { flight = left_in_flight heap (needing_lanes v h) index event })
 
 -- draw: where the clock had this word, and these were the events before, the view has seen them and the new one, which is one more of its own
 abbrev pub drew : Event → ℕ → List Event → MutView → MutView
 drew event word before v = record v {
   tally = counted_with word v.tally;
   journal = record { seen = before ++ event ∷ []; entries = v.journal.entries ++ record { ticket = high_half word; event = event } ∷ [] };
-  held = with_flight (left_in_flight (heap_after v.terms.shape v.terms.sizes before) event) v.held;
+  held = drawn_hand v (heap_after v.terms.shape v.terms.sizes before) (low_half word) event v.held;
 }

@@ -2,6 +2,8 @@ pub mod Board
 pub mod Views
 pub mod Entries
 pub mod Holding
+pub mod Needs
+pub mod Versions
 pub mod Turns
 pub mod Draws
 pub mod Parts

@@ -1,5 +1,5 @@
 -- What a step tells its seat: the view afterwards, by the view before and the word found.
-use Rattle.std.specs.Prelude.{◌≡◌, ℕ, ◌^◌, ◌<◌, List, [], ◌∷◌, ◌++◌, length, Some}
+use Rattle.std.specs.Prelude.{◌≡◌, ℕ, ◌^◌, ◌<◌, ◌≤◌, List, [], ◌∷◌, ◌++◌, length, Some}
 use mathlib.Core.List.{IsPrefix}
 use Rattle.atomic_table.specs.Table.{Me}
 use Rattle.st_events.specs.declared.events.Event.{Event}
@@ -8,13 +8,14 @@ use Rattle.st_rule.specs.declared.views.MutView.{MutView}
 use Rattle.st_rule.specs.declared.views.View.{View}
 use Rattle.st_rule.specs.declared.views.View.TheVariants.{Mut}
 use Rattle.st_layout.specs.Layout.{word_of}
-use Rattle.st_layout.specs.Names.{EpochWord}
+use Rattle.st_layout.specs.Names.{EpochWord, AvailableWord, LaneWord, FreeWord}
+use Rattle.st_events.specs.declared.limits.Sizes.{Sizes}
 use Rattle.st_layout.specs.Packed.{high_half}
 use Rattle.st_rule.specs.Draws.{drew, IsNextOf}
 use Rattle.st_rule.specs.Entries.{own_entries}
 use Rattle.st_rule.specs.Board.{plan_of}
 use Rattle.st_rule.specs.declared.views.Held.{Held}
-use Rattle.st_rule.specs.Turns.{locked, board_loaded, field_found, object_of_header, field_of_word}
+use Rattle.st_rule.specs.Turns.{locked, board_loaded, field_found, forwarded, object_of_header, field_of_word, lane_of_word}
 
 -- a seat and its view; no seat of this table holds a slot
 abbrev pub Seated : Type 0
@@ -35,10 +36,17 @@ pub record Learns (change : ℕ → List Event → MutView → MutView) (before 
   pub own : (v : MutView) → before.0 ≡ Mut v → own_entries v.gate.number 0 seen ≡ v.journal.entries
   pub slots : after.1 ≡ before.1
 
--- board load: the word was found, and where it is the epoch it is a half of a header
+-- what a word of the board is at most: each is a half of a word, and the free list names copies
+pub record IsBoardWord (sizes : Sizes) (place word : ℕ) : Type 0 where
+  pub epoch : place ≡ word_of (plan_of sizes) EpochWord → word < 2 ^ 32
+  pub lane : (l : ℕ) → l < sizes.lanes → place ≡ word_of (plan_of sizes) (LaneWord l) → word < 2 ^ 32
+  pub available : place ≡ word_of (plan_of sizes) AvailableWord → word ≤ sizes.copies
+  pub free : (i : ℕ) → i < sizes.copies → place ≡ word_of (plan_of sizes) (FreeWord i) → word < sizes.copies
+
+-- board load: the word was found, and it is within what it may be
 pub record LoadsBoard (place : ℕ) (before : Seated) (word : ℕ) (after : Seated) : Type 0 where
   pub becomes : Becomes (board_loaded place) before word after
-  pub epoch : (v : MutView) → before.0 ≡ Mut v → place ≡ word_of (plan_of v.terms.sizes) EpochWord → word < 2 ^ 32
+  pub fits : (v : MutView) → before.0 ≡ Mut v → IsBoardWord v.terms.sizes place word
 
 -- lock: the header was found, and where the object is the next one of the seat's region, that was 0
 pub record Locks (object stamp : ℕ) (before : Seated) (word : ℕ) (after : Seated) : Type 0 where
@@ -54,6 +62,12 @@ pub record FindsField (place : ℕ) (before : Seated) (word : ℕ) (after : Seat
   pub finds :
       (v : MutView) (h : Held) → before.0 ≡ Mut v → v.held ≡ Some h
       → Becomes (field_found (field_of_word (plan_of v.terms.sizes) h.object place)) before word after
+
+-- forward store of the held object, where the forwarding word says whose lane it is
+pub record StoresForward (place : ℕ) (before : Seated) (word : ℕ) (after : Seated) : Type 0 where
+  pub stores :
+      (v : MutView) (h : Held) → before.0 ≡ Mut v → v.held ≡ Some h
+      → Becomes (λ _ u. forwarded (lane_of_word (plan_of v.terms.sizes) h.object place) u) before word after
 
 -- draw: the events before were these, and with the event they are legal; the clock's ticket part was their number
 pub record Draws (event : Event) (before : Seated) (word : ℕ) (after : Seated) : Type 0 where
@@ -75,11 +89,11 @@ pub record FindsAndLearns (change : ℕ → List Event → MutView → MutView) 
   pub legal : IsLegal before.terms.shape before.terms.sizes seen
   pub own : own_entries before.gate.number 0 seen ≡ before.journal.entries
 
--- board load, as contracts see it: the word was found, and where it is the epoch it is a half of a header
+-- board load, as contracts see it: the word was found, and it is within what it may be
 pub record FindsBoard (place : ℕ) (before after : MutView) : Type 0 where
   pub word : ℕ
   pub view : after ≡ board_loaded place word before
-  pub epoch : place ≡ word_of (plan_of before.terms.sizes) EpochWord → word < 2 ^ 32
+  pub fits : IsBoardWord before.terms.sizes place word
 
 -- lock, as contracts see it: the header was found, and where the object is the next one of the seat's region, that was 0
 pub record FindsLock (object stamp : ℕ) (before after : MutView) : Type 0 where

@@ -2,6 +2,8 @@
 use Rattle.std.specs.Prelude.{ℕ, List, [], Option, None}
 use Rattle.atomic_table.specs.Table.{State}
 use Rattle.st_layout.specs.Names.{ClosingWord, ClockWord, EpochWord, AvailableWord, FlagWord, LaneWord, ClassWord, HeaderWord, ForwardWord, FieldWord}
+use Rattle.st_layout.specs.Names.{CopyWord, FreeWord}
+use Rattle.st_layout.specs.Packed.{low_half}
 use Rattle.st_events.specs.declared.events.Event.{Event}
 use Rattle.st_events.specs.declared.verdicts.Verdict.{Verdict}
 use Rattle.st_events.specs.Shape.{IsWithinLimits}
@@ -14,6 +16,10 @@ use Rattle.st_rule.specs.declared.views.Terms.{Terms}
 use Rattle.st_rule.specs.declared.views.MutView.{MutView}
 use Rattle.st_rule.specs.declared.views.View.{View}
 use Rattle.st_rule.specs.Board.{Board, Displays, plan_of}
+use Rattle.st_rule.specs.Holding.{holding, flight_of}
+use Rattle.st_rule.specs.Versions.{LanePart, CopyPart}
+use Rattle.st_rule.specs.declared.views.Flight.{Flight}
+use Rattle.st_events.specs.declared.limits.Sizes.{Sizes}
 use Rattle.st_rule.specs.Parts.{JournalPart, GatePart, BoardPart, LoadedPart, ObjectPart, HandPart, Seating}
 
 -- what a table is told once: the terms, and which verdicts are right after which events
@@ -37,12 +43,29 @@ pub record Moment : Type 0 where
   pub seat : ℕ → ℕ
   -- how many mutators' seats were split off
   pub split : ℕ
+  -- the copy part of the clock when the pool was settled last
+  pub since : ℕ
 
--- the words and the views are those of the moment, and every part holds
+-- what is in flight at each object, by what each number holds, and which number holds the object
+abbrev pub flights_of : (ℕ → Option Held) → (ℕ → ℕ) → ℕ → Option Flight
+flights_of grip holder object = flight_of (holding grip (holder object))
+
+-- the parts on lanes and on copies, by the words of a board
+abbrev pub LanesAt : Sizes → World → Board → (ℕ → Option Flight) → Type 0
+LanesAt sizes world board flight =
+    LanePart sizes world (λ l. board (LaneWord l)) (board AvailableWord) flight (λ o f. board (FieldWord o f)) (λ o l. board (ForwardWord o l))
+    (λ c k. board (CopyWord c k)) (λ i. board (FreeWord i))
+
+abbrev pub CopiesAt : Sizes → World → Board → ℕ → (ℕ → Option Flight) → Type 0
+CopiesAt sizes world board since flight =
+    CopyPart sizes world (λ l. board (LaneWord l)) (board AvailableWord) (low_half (board ClockWord)) since flight (λ o l. board (ForwardWord o l))
+    (λ i. board (FreeWord i))
+
 -- all that the journal of the moment says
 abbrev pub world_of : Terms → Moment → World
 world_of terms m = world_after terms.shape terms.sizes m.journal
 
+-- the words and the views are those of the moment, and every part holds
 pub record HoldsAt (told : Told) (m : Moment) (words : List ℕ) (views : List View) : Type 0 where
   pub limits : AreWithinLimits told.terms.sizes
   pub shape_limits : IsWithinLimits told.terms.shape
@@ -55,6 +78,8 @@ pub record HoldsAt (told : Told) (m : Moment) (words : List ℕ) (views : List V
   pub object_part :
       ObjectPart told.terms.sizes (world_of told.terms m) m.phase m.grip m.holder (λ o. m.board (HeaderWord o)) (λ o. m.board (ClassWord o))
       (λ o f. m.board (FieldWord o f)) (λ o l. m.board (ForwardWord o l))
+  pub lane_part : LanesAt told.terms.sizes (world_of told.terms m) m.board (flights_of m.grip m.holder)
+  pub copy_part : CopiesAt told.terms.sizes (world_of told.terms m) m.board m.since (flights_of m.grip m.holder)
   pub hand_part : HandPart m.seat m.split m.journal views
   pub seating : Seating told.terms m.phase m.grip m.seat m.split views
 

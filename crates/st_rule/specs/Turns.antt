@@ -4,10 +4,10 @@ use Rattle.std.specs.Prelude.{nat_lt, Option, Some, None}
 use Rattle.st_layout.specs.declared.plans.Plan.{Plan}
 use Rattle.st_layout.specs.declared.words.TheConstants.{FIRST_FLAG, CELL_WORDS}
 use Rattle.st_layout.specs.Layout.{word_of, first_cell}
-use Rattle.st_layout.specs.Names.{FieldWord}
+use Rattle.st_layout.specs.Names.{FieldWord, ForwardWord}
 use Rattle.st_layout.specs.Packed.{packed}
 use Rattle.st_events.specs.declared.events.Event.{Event}
-use Rattle.st_events.specs.World.{is_among}
+use Rattle.st_events.specs.World.{is_among, without}
 use Rattle.st_rule.specs.declared.views.Phase.{Phase}
 use Rattle.st_rule.specs.declared.views.Phase.TheVariants.{Outside, Entering, Inside, Closing, Alone}
 use Rattle.st_rule.specs.declared.views.Tally.{Tally}
@@ -142,6 +142,32 @@ with_written (Some h) = Some (record h { loaded = []; flight = landed h.flight }
 abbrev pub word_written : MutView → MutView
 word_written v = record v { tally = counted v.tally; held = with_written v.held }
 
+-- the hand once one more word of the copy in flight is written
+abbrev pub one_built : Option Flight → Option Flight
+one_built None = None
+one_built (Some x) = Some (record x { built = x.built + 1 })
+
+abbrev pub with_built : Option Held → Option Held
+with_built None = None
+with_built (Some h) = Some (record h { flight = one_built h.flight })
+
+-- copy store: one more word of the copy stands
+abbrev pub copy_stored : MutView → MutView
+copy_stored v = record v { tally = counted v.tally; held = with_built v.held }
+
+-- the hand once the forwarding word of a lane is written
+abbrev pub owed_less : ℕ → Option Flight → Option Flight
+owed_less lane None = None
+owed_less lane (Some x) = Some (record x { awaiting = without lane x.awaiting })
+
+abbrev pub with_forward : ℕ → Option Held → Option Held
+with_forward lane None = None
+with_forward lane (Some h) = Some (record h { flight = owed_less lane h.flight })
+
+-- forward store: the lane waits no more
+abbrev pub forwarded : ℕ → MutView → MutView
+forwarded lane v = record v { tally = counted v.tally; held = with_forward lane v.held }
+
 -- the number whose flag a word is
 abbrev pub number_of_flag : ℕ → ℕ
 number_of_flag word = word - FIRST_FLAG
@@ -153,6 +179,10 @@ object_of_header plan word = (word - first_cell plan) / CELL_WORDS
 -- the field of an object that a word is
 abbrev pub field_of_word : Plan → (object word : ℕ) → ℕ
 field_of_word plan object word = word - word_of plan (FieldWord object 0)
+
+-- the lane whose forwarding word of an object a word is
+abbrev pub lane_of_word : Plan → (object word : ℕ) → ℕ
+lane_of_word plan object word = word - word_of plan (ForwardWord object 0)
 
 -- split, as the main thread sees it: one more mutator's seat is out
 abbrev pub split_one : MutView → MutView

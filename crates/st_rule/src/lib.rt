@@ -3,7 +3,10 @@
 #![tactic(auto)]
 
 mod accesses;
+mod barrier_accesses;
+mod barrier_steps;
 mod closing;
+mod forwards;
 mod keys;
 mod making;
 mod object_accesses;
@@ -19,6 +22,7 @@ mod tests;
 mod views;
 
 pub use closing::Closed;
+pub use forwards::LOST;
 pub use seats::{MutSeat, SeatLog};
 pub use tables::Shared;
 pub use views::{

@@ -2,7 +2,7 @@
 ghost use Rattle.std.specs.Prelude.{◌≡◌, ◌<◌, ◌≤◌};
 ghost use Rattle.st_layout.specs.declared.limits.TheConstants.{MOST_FIELDS};
 ghost use Rattle.st_layout.specs.Layout.{word_of};
-ghost use Rattle.st_layout.specs.Names.{ClosingWord, ClockWord, FlagWord, ClassWord, HeaderWord, FieldWord, cells_of};
+ghost use Rattle.st_layout.specs.Names.{ClosingWord, ClockWord, FlagWord, ClassWord, HeaderWord, FieldWord, ForwardWord, CopyWord, cells_of};
 ghost use Rattle.st_rule.specs.Board.{plan_of};
 ghost use Rattle.st_rule.specs.Seats.{sizes_of, table_of};
 
@@ -76,5 +76,25 @@ impl<J: Judge> Shared<J> {
         ensures within { result < (table_of self.now).words }
     {
         self.plan.field_word(obj, field) as usize
+    }
+
+    /// The word of a lane's forwarding word at an object.
+    pub(crate) fn forward_place(&self, obj: u32, lane: u8) -> usize
+        requires object { obj < cells_of (plan_of (sizes_of self.now)) }
+        requires lane { lane < (sizes_of self.now).lanes }
+        ensures place { result ≡ word_of (plan_of (sizes_of self.now)) (ForwardWord obj lane) }
+        ensures within { result < (table_of self.now).words }
+    {
+        self.plan.forward_word(obj, lane) as usize
+    }
+
+    /// Word `k` of a copy.
+    pub(crate) fn copy_place(&self, copy: u32, k: u8) -> usize
+        requires copy { copy < (sizes_of self.now).copies }
+        requires word { k ≤ MOST_FIELDS }
+        ensures place { result ≡ word_of (plan_of (sizes_of self.now)) (CopyWord copy k) }
+        ensures within { result < (table_of self.now).words }
+    {
+        self.plan.copy_word(copy, k) as usize
     }
 }

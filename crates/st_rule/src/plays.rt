@@ -3,9 +3,9 @@ ghost use Rattle.std.specs.Prelude.{[]};
 ghost use Rattle.st_events.specs.declared.events.Event.{Event};
 ghost use Rattle.st_events.specs.declared.events.Event.TheVariants.{Retire};
 ghost use Rattle.st_layout.specs.Packed.{high_half};
-ghost use Rattle.st_rule.specs.Plays.{Becomes, Learns, LoadsBoard, LocksWhere, FindsField, Draws};
+ghost use Rattle.st_rule.specs.Plays.{Becomes, Learns, LoadsBoard, LocksWhere, FindsField, StoresForward, Draws};
 ghost use Rattle.st_rule.specs.Turns.{flagged_in, looked, flagged_out, took_gate, saw, gave_gate, number_of_flag};
-ghost use Rattle.st_rule.specs.Turns.{looked_last, unlocked, word_written};
+ghost use Rattle.st_rule.specs.Turns.{looked_last, unlocked, word_written, copy_stored};
 
 use crate::views::View;
 use atomic_table::Play;
@@ -93,6 +93,20 @@ pub struct WordStore;
 
 impl Play<(), View> for WordStore {
     ghost then = { λ step before word after. Becomes (λ _ v. word_written v) before word after };
+}
+
+/// Copy store.
+pub struct CopyStore;
+
+impl Play<(), View> for CopyStore {
+    ghost then = { λ step before word after. Becomes (λ _ v. copy_stored v) before word after };
+}
+
+/// Forward store. Which lane's forwarding word it is, the word's number tells.
+pub struct ForwardStore;
+
+impl Play<(), View> for ForwardStore {
+    ghost then = { λ step before word after. StoresForward step.word before word after };
 }
 
 /// Which event is drawn. The clock's word does not tell it, so the call that draws picks it.

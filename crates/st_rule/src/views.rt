@@ -86,6 +86,12 @@ pub struct Flight {
     pub old: u64,
     /// Whether its field, or its class word, is written. Then only the header is left.
     pub written: bool,
+    /// The lanes whose checks need the old version, and whose forwarding word at the object is not written yet.
+    pub awaiting: LinkedList<u8>,
+    /// The index of the free list that was drawn with the event; None where no lane needed the old version.
+    pub index: Option<u32>,
+    /// How many words of the copy are written, from word 0 on.
+    pub built: u8,
 }
 
 /// What a mutator knows of the object that it holds.

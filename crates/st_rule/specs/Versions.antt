@@ -1,0 +1,96 @@
+-- The parts of the rule on old versions: what the forwarding words of active checks say, and which copies are whose.
+use Rattle.std.specs.Prelude.{◌≡◌, ◌≢◌, ℕ, zero, suc, ◌+◌, ◌<◌, ◌≤◌, ◌⊎◌, true, false, length, Option, Some, IsSome}
+use Rattle.st_layout.specs.declared.limits.TheConstants.{MOST_FIELDS}
+use Rattle.st_layout.specs.Packed.{high_half, low_half}
+use Rattle.st_events.specs.declared.limits.Sizes.{Sizes}
+use Rattle.st_events.specs.Heap.{Heap}
+use Rattle.st_events.specs.World.{World, Launched, is_among, is_lost}
+use Rattle.st_rule.specs.declared.forwards.TheConstants.{LOST}
+use Rattle.st_rule.specs.declared.views.Flight.{Flight}
+use Rattle.st_rule.specs.Holding.{word_or_zero}
+
+-- what is in flight at the object still owes this lane its forwarding word
+pub record IsAwaiting (flight : Option Flight) (lane : ℕ) : Type 0 where
+  pub one : Flight
+  pub flies : flight ≡ Some one
+  pub awaits : is_among one.awaiting lane ≡ true
+
+-- the copy has the object's number and then the fields that it had in this heap
+pub record IsCopyOf (words : ℕ → ℕ) (object : ℕ) (past : Heap) : Type 0 where
+  pub number : words 0 ≡ object
+  pub fields : (f : ℕ) → f < MOST_FIELDS → words (suc f) ≡ word_or_zero past object f
+
+-- what the low half of a forwarding word of a check says: the copy of its version, or that the version is lost
+abbrev pub IsForwarded : (sizes : Sizes) (world : World) (low object check : ℕ) (past : Heap) (copy : ℕ → ℕ → ℕ) → Type 0
+IsForwarded sizes world low object check past copy =
+    ((c : ℕ) × (low ≡ suc c) × (c < sizes.copies) × IsCopyOf (copy c) object past)
+    ⊎ ((low ≡ LOST) × (is_lost world.lost object check ≡ true))
+
+-- a lane at an object of its check's past. Its forwarding word is of another epoch: then the fields are those of the past, and a change since
+-- the launch is in flight and has not written the word. Or it is the check's: then it names the copy of the version, or says that it is lost
+pub record LaneAt (sizes : Sizes) (world : World) (flight : Option Flight) (field : ℕ → ℕ) (forward : ℕ) (copy : ℕ → ℕ → ℕ) (object lane check : ℕ) (past : Heap)
+    : Type 0 where
+  pub live : high_half forward ≢ check → (f : ℕ) → field f ≡ word_or_zero past object f
+  pub unchanged : high_half forward ≢ check → check ≤ world.stamp object → IsAwaiting flight lane
+  pub forwarded : high_half forward ≡ check → IsForwarded sizes world (low_half forward) object check past copy
+
+-- a lane that what is in flight still owes its forwarding word: its check is active and has none yet, the field is not written, and where the
+-- drawn index reached no copy the version is lost
+pub record IsOwed (sizes : Sizes) (world : World) (lane : ℕ → ℕ) (available : ℕ) (forward : ℕ) (x : Flight) (object l : ℕ) : Type 0 where
+  pub within : l < sizes.lanes
+  pub active : is_among world.active (lane l) ≡ true
+  pub apart : high_half forward ≢ lane l
+  pub unwritten : x.written ≡ false
+  pub lost : (index : ℕ) → x.index ≡ Some index → available ≤ index → is_lost world.lost object (lane l) ≡ true
+
+-- the word of an object's version: its number, then its fields
+abbrev pub version_word : (field : ℕ → ℕ → ℕ) (object k : ℕ) → ℕ
+version_word field object zero = object
+version_word field object (suc f) = field object f
+
+-- the part on lanes; `flight` is what is in flight at each object
+pub record LanePart (sizes : Sizes) (world : World) (lane : ℕ → ℕ) (available : ℕ) (flight : ℕ → Option Flight) (field forward copy : ℕ → ℕ → ℕ) (free : ℕ → ℕ) : Type 0 where
+  -- each lane of an active check at each object of its past
+  pub lanes :
+      (l object : ℕ) (launch : Launched) → l < sizes.lanes
+      → is_among world.active (lane l) ≡ true
+      → world.launched (lane l) ≡ Some launch
+      → IsSome (launch.past object)
+      → LaneAt sizes world (flight object) (field object) (forward object l) copy object l (lane l) launch.past
+  -- no forwarding word is of an epoch above its object's stamp
+  pub epochs : (object l : ℕ) → high_half (forward object l) ≤ world.stamp object
+  -- the lanes that are still owed their forwarding words
+  pub owed : (object l : ℕ) (x : Flight) → flight object ≡ Some x → is_among x.awaiting l ≡ true → IsOwed sizes world lane available (forward object l) x object l
+  -- each word written so far of a copy in flight is the object's number, or a field that is not overwritten yet
+  pub built :
+      (object : ℕ) (x : Flight) → flight object ≡ Some x
+      → x.written ≡ false
+      → (index : ℕ) → x.index ≡ Some index → index < available
+      → (k : ℕ) → k < x.built → copy (free index) k ≡ version_word field object k
+
+-- the forwarding word of a lane's active check names this copy
+pub record IsNamed (sizes : Sizes) (world : World) (lane : ℕ → ℕ) (forward : ℕ → ℕ → ℕ) (object l c : ℕ) : Type 0 where
+  pub within : l < sizes.lanes
+  pub active : is_among world.active (lane l) ≡ true
+  pub epoch : high_half (forward object l) ≡ lane l
+  pub low : low_half (forward object l) ≡ suc c
+  pub kept : low_half (forward object l) ≢ LOST
+
+-- the part on copies; `drawn` is the copy part of the clock, and `since` what it was when the pool was settled last
+pub record CopyPart (sizes : Sizes) (world : World) (lane : ℕ → ℕ) (available drawn since : ℕ) (flight : ℕ → Option Flight) (forward : ℕ → ℕ → ℕ) (free : ℕ → ℕ) : Type 0 where
+  -- the rows kept are as many as the copies that are not free
+  pub some_left : drawn ≤ available → length world.kept + available ≡ sizes.copies + drawn
+  pub none_left : available ≤ drawn → length world.kept ≡ sizes.copies
+  pub listed : available ≤ sizes.copies
+  pub since_then : since ≤ drawn
+  -- the free list names copies, and each of those that it named since once
+  pub named : (i : ℕ) → i < sizes.copies → free i < sizes.copies
+  pub once : (i j : ℕ) → since ≤ i → i < available → since ≤ j → j < available → free i ≡ free j → i ≡ j
+  -- indexes in flight were drawn since, and differ
+  pub indexes : (object : ℕ) (x : Flight) (i : ℕ) → flight object ≡ Some x → x.index ≡ Some i → (since ≤ i) × (i < drawn)
+  pub differ : (o p : ℕ) (x y : Flight) (i : ℕ) → flight o ≡ Some x → flight p ≡ Some y → x.index ≡ Some i → y.index ≡ Some i → o ≡ p
+  -- no copy that is free, or drawn and not complete, is named by the forwarding word of an active check
+  pub spares_free : (object l c : ℕ) → IsNamed sizes world lane forward object l c → (i : ℕ) → drawn ≤ i → i < available → free i ≢ c
+  pub spares_built :
+      (object l c : ℕ) → IsNamed sizes world lane forward object l c
+      → (p : ℕ) (x : Flight) (i : ℕ) → flight p ≡ Some x → x.index ≡ Some i → i < available → x.built ≤ MOST_FIELDS → free i ≢ c

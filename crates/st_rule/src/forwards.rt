@@ -1,0 +1,4 @@
+//! What forwarding words say.
+
+/// The low half of a forwarding word whose version is lost. Else it is one more than a copy's number.
+pub const LOST: u32 = 4_294_967_295;
