@@ -1,10 +1,12 @@
 -- A draw with what follows it is one event; what a seat may draw before a call it may draw once it holds the object.
 use Rattle.std.proofs.Common.{◌≡◌, ℕ, ◌+◌, ◌<◌, ◌≤◌, ◌==◌, Bool, true, false, if◌then◌else◌, List, [], ◌∷◌, ◌++◌, length, Some}
-use Rattle.std.proofs.Common.{None, sym, refl, ap, subst, ◌∙◌, eq-eqb}
-use Rattle.std.specs.Prelude.{IsSome, MatchBool}
+use Rattle.std.proofs.Common.{Option, None, sym, refl, ap, subst, ◌∙◌, eq-eqb}
+use Rattle.std.specs.Prelude.{IsSome}
 use mathlib.Core.List.{IsPrefix}
+use Rattle.st_layout.specs.declared.limits.TheConstants.{MOST_FIELDS}
 use Rattle.st_layout.specs.Layout.{word_of}
 use Rattle.st_layout.specs.Names.{EpochWord}
+use Rattle.st_layout.specs.Packed.{low_half}
 use Rattle.st_events.specs.declared.events.Event.{Event}
 use Rattle.st_events.specs.declared.events.Event.TheVariants.{New, Load, Store, Cas, Launch, Retire}
 use Rattle.st_events.specs.Heap.{Heap, word_at}
@@ -21,9 +23,11 @@ use Rattle.st_rule.specs.declared.views.MutView.{MutView}
 use Rattle.st_rule.specs.declared.views.Phase.TheVariants.{Inside}
 use Rattle.st_rule.specs.declared.views.Terms.{Terms}
 use Rattle.st_rule.specs.Board.{plan_of}
-use Rattle.st_rule.specs.Draws.{MayDraw, MayUnlock, HasInHand, AwaitsField, AwaitsClass, Suits, IsNextOf, heap_seen, with_flight, left_in_flight}
+use Rattle.st_rule.specs.Draws.{MayDraw, MayUnlock, HasInHand, AwaitsField, AwaitsClass, Suits, IsNextOf, heap_seen, drawn_hand, left_in_flight}
+use Rattle.st_rule.specs.Draws.{fresh_change, fresh_new}
+use Rattle.st_rule.specs.Needs.{KnowsNeed, needing_lanes, is_change, is_any, takes_copy, index_for}
 use Rattle.st_rule.specs.Entries.{charge_of, charge_of_all, charge_spent, objects_made, next_of}
-use Rattle.st_rule.specs.Holding.{IsSetting, IsMaking, field_loaded, word_loaded}
+use Rattle.st_rule.specs.Holding.{IsSetting, IsMaking, field_loaded, word_loaded, word_or_zero}
 use Rattle.st_rule.specs.Plays.{FindsAndDraws}
 use Rattle.st_rule.specs.SeatValue.{SeatValue}
 use Rattle.st_rule.specs.Seats.{IsSameSeat}
@@ -31,25 +35,53 @@ use Rattle.st_rule.specs.Turns.{unlocked, word_written, with_written, landed}
 use Rattle.st_rule.proofs.EntryLemmas.{entry, charge_more}
 use Rattle.st_barrier.specs.Calls.{MayCall, HasCell, FitsCell, MakesEvent, Loads, Compares}
 use Rattle.st_barrier.specs.Hands.{StaysAs, HasLoadedFields, HoldsQuietly, HasEpoch, IsPlain, KeepsEpoch, OwesHeader}
+use Rattle.st_barrier.specs.Keeping.{HasFound, HasFields, MayChange, Flies, quiet_hand, awaiting_of}
 use Rattle.st_barrier.proofs.HandLemmas.{stays_self, stays_by, heap_same}
 
 -- an event that sets a field leaves itself in flight
-pub setting_flies : (h : Heap) (e : Event) (f word : ℕ) → IsSetting e f word → (x : Flight) × (left_in_flight h e ≡ Some x) × (x.event ≡ e)
-setting_flies h (New m obj class) f word s = absurd s
-setting_flies h (Load m obj field value) f word s = absurd s
-setting_flies h (Store m obj field value) f word s = (_, refl, refl)
-setting_flies h (Cas m obj field expect value true) f word s = (_, refl, refl)
-setting_flies h (Cas m obj field expect value false) f word s = absurd (let e : false ≡ true = s.2 in cc)
-setting_flies h (Launch m site number args) f word s = absurd s
-setting_flies h (Retire m number) f word s = absurd s
+pub setting_flies :
+    (h : Heap) (lanes : List ℕ) (index : ℕ) (e : Event) (f word : ℕ) → IsSetting e f word
+    → (old : ℕ) × (left_in_flight h lanes index e ≡ Some (fresh_change e old lanes index))
+setting_flies h lanes index (New m obj class) f word s = absurd s
+setting_flies h lanes index (Load m obj field value) f word s = absurd s
+setting_flies h lanes index (Store m obj field value) f word s = (word_or_zero h obj field, refl)
+setting_flies h lanes index (Cas m obj field expect value true) f word s = (word_or_zero h obj field, refl)
+setting_flies h lanes index (Cas m obj field expect value false) f word s = absurd (let e : false ≡ true = s.2 in cc)
+setting_flies h lanes index (Launch m site number args) f word s = absurd s
+setting_flies h lanes index (Retire m number) f word s = absurd s
 
-pub making_flies : (h : Heap) (e : Event) (c : ℕ) → IsMaking e c → (x : Flight) × (left_in_flight h e ≡ Some x) × (x.event ≡ e)
-making_flies h (New m obj class) c s = (_, refl, refl)
-making_flies h (Load m obj field value) c s = absurd s
-making_flies h (Store m obj field value) c s = absurd s
-making_flies h (Cas m obj field expect value done) c s = absurd s
-making_flies h (Launch m site number args) c s = absurd s
-making_flies h (Retire m number) c s = absurd s
+-- and changes a field
+pub setting_changes : (e : Event) (f word : ℕ) → IsSetting e f word → is_change e ≡ true
+setting_changes (New m obj class) f word s = absurd s
+setting_changes (Load m obj field value) f word s = absurd s
+setting_changes (Store m obj field value) f word s = refl
+setting_changes (Cas m obj field expect value done) f word s = s.2
+setting_changes (Launch m site number args) f word s = absurd s
+setting_changes (Retire m number) f word s = absurd s
+
+pub making_flies : (h : Heap) (lanes : List ℕ) (index : ℕ) (e : Event) (c : ℕ) → IsMaking e c → left_in_flight h lanes index e ≡ Some (fresh_new e)
+making_flies h lanes index (New m obj class) c s = refl
+making_flies h lanes index (Load m obj field value) c s = absurd s
+making_flies h lanes index (Store m obj field value) c s = absurd s
+making_flies h lanes index (Cas m obj field expect value done) c s = absurd s
+making_flies h lanes index (Launch m site number args) c s = absurd s
+making_flies h lanes index (Retire m number) c s = absurd s
+
+-- one that makes an object changes none
+pub making_changes_none : (e : Event) (c : ℕ) → IsMaking e c → is_change e ≡ false
+making_changes_none (New m obj class) c s = refl
+making_changes_none (Load m obj field value) c s = absurd s
+making_changes_none (Store m obj field value) c s = absurd s
+making_changes_none (Cas m obj field expect value done) c s = absurd s
+making_changes_none (Launch m site number args) c s = absurd s
+making_changes_none (Retire m number) c s = absurd s
+
+-- what changes nothing takes no copy, and asks for no check
+takes_none : (e : Event) (lanes : List ℕ) → is_change e ≡ false → false ≡ takes_copy e lanes
+takes_none e lanes still = ap (λ b. if b then is_any lanes else false) (sym still)
+
+asks_none : (e : Event) (v : MutView) (h : Held) → is_change e ≡ false → is_change e ≡ true → KnowsNeed v h
+asks_none e v h still moves = absurd (let e : false ≡ true = sym still ∙ moves in cc)
 
 -- ---- one event
 
@@ -61,7 +93,8 @@ cost_is v h (Cas m obj field expect value done) s = refl
 cost_is v h (Launch m site n args) s = absurd s
 cost_is v h (Retire m n) s = absurd s
 
-module _ (before mid : SeatValue) (event : Event) (may : MayDraw before.view event false) (same : IsSameSeat before mid) (draws : FindsAndDraws event before.view mid.view) where
+module _ (before mid : SeatValue) (event : Event) (copy : Bool) (may : MayDraw before.view event copy) (same : IsSameSeat before mid)
+    (draws : FindsAndDraws event before.view mid.view) where
   -- the draw, and then what leaves the list and the entries
   pub event_made : (after : SeatValue) → StaysAs mid after → MakesEvent event before after
   event_made after stays =
@@ -97,43 +130,88 @@ module _ (before mid : SeatValue) (event : Event) (may : MayDraw before.view eve
   abbrev heap : Heap
   heap = heap_after before.view.terms.shape before.view.terms.sizes draws.finds.seen
 
-  hand_after : mid.view.held ≡ with_flight (left_in_flight heap event) before.view.held
-  hand_after = ap (λ (v : MutView). v.held) draws.finds.view
+  abbrev lanes_of : Held → List ℕ
+  lanes_of h = needing_lanes before.view h
+
+  abbrev index : ℕ
+  index = low_half draws.finds.word
+
+  hand_after : (h : Held) → before.view.held ≡ Some h → mid.view.held ≡ Some (record h { flight = left_in_flight heap (needing_lanes before.view h) index event })
+  hand_after h held = ap (λ (v : MutView). v.held) draws.finds.view ∙ ap (drawn_hand before.view heap index event) held
 
   -- an event that changes nothing leaves nothing in flight
   pub quiet_stays : (obj stamp : ℕ) → HoldsQuietly obj stamp before → IsPlain event → HoldsQuietly obj stamp mid
-  quiet_stays obj stamp quiet plain = record { loaded = quiet.loaded; held = hand_after ∙ (λ i. with_flight (plain heap i) (quiet.held i)) }
+  quiet_stays obj stamp quiet plain =
+      let h : Held = record { object = obj; stamp = stamp; loaded = quiet.loaded; flight = None } in
+      record {
+        loaded = quiet.loaded;
+        held = hand_after (record { object = obj; stamp = stamp; loaded = quiet.loaded; flight = None }) quiet.held
+            ∙ ap (λ (x : Option Flight). Some (record { object = obj; stamp = stamp; loaded = quiet.loaded; flight = x }))
+            (plain heap (needing_lanes before.view (record { object = obj; stamp = stamp; loaded = quiet.loaded; flight = None })) index);
+      }
 
-  -- a change or a New is in flight
-  module _ (obj : ℕ) (has : HasInHand before.view obj) (x : Flight) (leaves : left_in_flight heap event ≡ Some x) where
-    flown_held : mid.view.held ≡ Some (record has.hand { flight = Some x })
-    flown_held = hand_after ∙ (λ i. with_flight (leaves i) (has.held i))
+  -- a New is in flight
+  pub new_flies : (obj class : ℕ) → HasInHand before.view obj → IsMaking event class → AwaitsClass mid.view obj class
+  new_flies obj class has makes = record {
+    has = record {
+      hand = record has.hand { flight = Some (fresh_new event) };
+      held = hand_after has.hand has.held ∙ ap (λ (x : Option Flight). Some (record has.hand { flight = x })) (making_flies heap (needing_lanes before.view has.hand) index event class makes);
+      object_is = has.object_is;
+    };
+    flight = fresh_new event;
+    flies = refl;
+    making = makes;
+    forwarded = refl;
+  }
 
-    awaits_field : (field value : ℕ) → IsSetting x.event field value → AwaitsField mid.view obj field value
-    awaits_field field value sets = record {
-      has = record { hand = record has.hand { flight = Some x }; held = flown_held; object_is = has.object_is };
-      flight = x;
+  -- a change is in flight
+  module _ (obj stamp : ℕ) (loaded : List LoadedField) (held : before.view.held ≡ Some (quiet_hand obj stamp loaded)) (field value : ℕ) (sets : IsSetting event field value) where
+    abbrev old : ℕ
+    old = (setting_flies heap (needing_lanes before.view (quiet_hand obj stamp loaded)) index event field value sets).0
+
+    abbrev flown : Flight
+    flown = fresh_change event old (needing_lanes before.view (quiet_hand obj stamp loaded)) index
+
+    flown_held : mid.view.held ≡ Some (record { object = obj; stamp = stamp; loaded = loaded; flight = Some flown })
+    flown_held =
+        hand_after (quiet_hand obj stamp loaded) held
+        ∙ ap (λ (x : Option Flight). Some (record { object = obj; stamp = stamp; loaded = loaded; flight = x }))
+        (setting_flies heap (needing_lanes before.view (quiet_hand obj stamp loaded)) index event field value sets).1
+
+    -- where no lane needs the old version, the field is next
+    pub unneeded_flies : needing_lanes before.view (quiet_hand obj stamp loaded) ≡ [] → AwaitsField mid.view obj field value
+    unneeded_flies none = record {
+      has = record { hand = record { object = obj; stamp = stamp; loaded = loaded; flight = Some flown }; held = flown_held; object_is = refl };
+      flight = flown;
       flies = refl;
       sets = sets;
+      forwarded = none;
     }
 
-    awaits_class : (class : ℕ) → IsMaking x.event class → AwaitsClass mid.view obj class
-    awaits_class class making = record {
-      has = record { hand = record has.hand { flight = Some x }; held = flown_held; object_is = has.object_is };
-      flight = x;
+    -- else its copy is
+    pub needed_flies :
+        (fields : List ℕ) (drawn : ℕ) → HasFields fields MOST_FIELDS loaded → is_any (needing_lanes before.view (quiet_hand obj stamp loaded)) ≡ true → index ≡ drawn
+        → Flies obj field value drawn fields 0 mid
+    needed_flies fields drawn fields_are some is = record {
+      hand = record { object = obj; stamp = stamp; loaded = loaded; flight = Some flown };
+      flight = flown;
+      held = flown_held;
+      object_is = refl;
       flies = refl;
-      making = making;
+      sets = sets;
+      unwritten = refl;
+      index_is = index_some (needing_lanes before.view (quiet_hand obj stamp loaded)) index some ∙ ap Some is;
+      built_is = refl;
+      fields_are = fields_are;
     }
+      where
+        index_some : (lanes : List ℕ) (k : ℕ) → is_any lanes ≡ true → index_for lanes k ≡ Some k
+        index_some [] k some = absurd cc
+        index_some (n ∷ ns) k some = refl
 
-  pub change_flies : (obj field value : ℕ) → HasInHand before.view obj → IsSetting event field value → AwaitsField mid.view obj field value
-  change_flies obj field value has sets =
-      let flies = setting_flies heap event field value sets in
-      awaits_field obj has flies.0 flies.1 field value (subst (λ (e : Event). IsSetting e field value) (sym flies.2) sets)
-
-  pub new_flies : (obj class : ℕ) → HasInHand before.view obj → IsMaking event class → AwaitsClass mid.view obj class
-  new_flies obj class has makes =
-      let flies = making_flies heap event class makes in
-      awaits_class obj has flies.0 flies.1 class (subst (λ (e : Event). IsMaking e class) (sym flies.2) makes)
+    -- and these lanes await it
+    pub needed_awaits : awaiting_of mid.view.held ≡ needing_lanes before.view (quiet_hand obj stamp loaded)
+    needed_awaits = ap awaiting_of flown_held
 
 -- ---- what is left to do
 
@@ -255,8 +333,8 @@ module _ (a b : SeatValue) (stays : StaysAs a b) where
   suits_stay h (Launch m site number args) s = absurd s
   suits_stay h (Retire m number) s = absurd s
 
-  pub draw_stays : (e : Event) → b.view.held ≡ a.view.held → MayDraw a.view e false → MayDraw b.view e false
-  draw_stays e held may = record {
+  pub draw_stays : (e : Event) → is_change e ≡ false → b.view.held ≡ a.view.held → MayDraw a.view e false → MayDraw b.view e false
+  draw_stays e still held may = record {
     inside = ap (λ g. g.phase) stays.gate ∙ may.inside;
     mutator = subst (λ (t : ℕ × Terms). t.0 < t.1.sizes.mutators) (λ i. (sym number_is i, sym stays.terms i)) may.mutator;
     charge = subst (λ (t : ℕ × Terms). t.0 + charge_of e ≤ t.1.sizes.events) (λ i. (sym (spent_same a b stays) i, sym stays.terms i)) may.charge;
@@ -264,17 +342,43 @@ module _ (a b : SeatValue) (stays : StaysAs a b) where
     held = held ∙ may.held;
     quiet = may.quiet;
     suits = suits_stay may.hand e may.suits;
-    copied = λ copy. absurd cc;
+    known = asks_none e b.view may.hand still;
+    copied = takes_none e (needing_lanes b.view may.hand) still;
+  }
+
+  -- what may be changed may be changed still
+  pub change_stays : (e : Event) (obj stamp field value : ℕ) (found : Option ℕ) → MayChange e obj stamp field value found a → MayChange e obj stamp field value found b
+  change_stays e obj stamp field value found may = record {
+    inside = ap (λ g. g.phase) stays.gate ∙ may.inside;
+    mutator = subst (λ (t : ℕ × Terms). t.0 < t.1.sizes.mutators) (λ i. (sym number_is i, sym stays.terms i)) may.mutator;
+    charge = subst (λ (t : ℕ × Terms). t.0 + charge_of e ≤ t.1.sizes.events) (λ i. (sym (spent_same a b stays) i, sym stays.terms i)) may.charge;
+    sets = may.sets;
+    suits = λ loaded found_is. suits_stay (quiet_hand obj stamp loaded) e (may.suits loaded found_is);
+  }
+
+  -- once the object is locked, the seat may change what suits whatever it loads
+  pub may_change :
+      (e : Event) (obj stamp field value : ℕ) (found : Option ℕ)
+      → a.view.gate.phase ≡ Inside → MayCall a → charge_of e ≡ 1 → IsSetting e field value
+      → ((loaded : List LoadedField) → HasFound loaded field found → Suits a.view (quiet_hand obj stamp loaded) e)
+      → MayChange e obj stamp field value found b
+  may_change e obj stamp field value found inside call cost sets suits = record {
+    inside = ap (λ g. g.phase) stays.gate ∙ inside;
+    mutator = subst (λ (t : ℕ × Terms). t.0 < t.1.sizes.mutators) (λ i. (sym number_is i, sym stays.terms i)) call.mutator;
+    charge = subst (λ (t : ℕ × Terms). t.0 + charge_of e ≤ t.1.sizes.events) (λ i. (sym (spent_same a b stays) i, sym stays.terms i))
+        (subst (λ k. charge_spent a.view + k ≤ a.view.terms.sizes.events) (sym cost) call.spare);
+    sets = sets;
+    suits = λ loaded found_is. suits_stay (quiet_hand obj stamp loaded) e (suits loaded found_is);
   }
 
   -- once the object is locked and its fields are loaded, the seat may draw what suits
   pub may_draw :
       (e : Event) (obj stamp : ℕ) (loaded : List LoadedField)
       → a.view.gate.phase ≡ Inside → MayCall a → HasLoadedFields obj stamp loaded b
-      → charge_of e ≡ 1
+      → charge_of e ≡ 1 → is_change e ≡ false
       → Suits a.view (record { object = obj; stamp = stamp; loaded = loaded; flight = None }) e
       → MayDraw b.view e false
-  may_draw e obj stamp loaded inside call held cost suits = record {
+  may_draw e obj stamp loaded inside call held cost still suits = record {
     inside = ap (λ g. g.phase) stays.gate ∙ inside;
     mutator = subst (λ (t : ℕ × Terms). t.0 < t.1.sizes.mutators) (λ i. (sym number_is i, sym stays.terms i)) call.mutator;
     charge = subst (λ (t : ℕ × Terms). t.0 + charge_of e ≤ t.1.sizes.events) (λ i. (sym (spent_same a b stays) i, sym stays.terms i))
@@ -283,7 +387,8 @@ module _ (a b : SeatValue) (stays : StaysAs a b) where
     held = held;
     quiet = refl;
     suits = suits_stay (record { object = obj; stamp = stamp; loaded = loaded; flight = None }) e suits;
-    copied = λ copy. absurd cc;
+    known = asks_none e b.view (record { object = obj; stamp = stamp; loaded = loaded; flight = None }) still;
+    copied = takes_none e (needing_lanes b.view (record { object = obj; stamp = stamp; loaded = loaded; flight = None })) still;
   }
 
 -- the event of a later part of a call is that of the call
@@ -317,6 +422,10 @@ cas_of a c obj f expect value done made = record {
       (each_is_legal c.view.terms.shape c.view.terms.sizes made.past [] (Cas a.view.gate.number obj f expect value done) made.legal)).answer;
 }
 
+-- a Cas that is not done leaves nothing in flight
+pub undone_plain : (m obj f expect value : ℕ) (done : Bool) → done ≡ false → IsPlain (Cas m obj f expect value done)
+undone_plain m obj f expect value done undone h lanes index = subst (λ b. left_in_flight h lanes index (Cas m obj f expect value b) ≡ None) (sym undone) refl
+
 -- ---- the four calls
 
 field_is_loaded : (f value : ℕ) → field_loaded (record { field = f; value = value } ∷ []) f ≡ Some value
@@ -326,26 +435,40 @@ module _ (a b : SeatValue) (stays : StaysAs a b) (inside : a.view.gate.phase ≡
   pub may_load :
       (f value : ℕ) → HasCell a obj f → HasLoadedFields obj stamp (record { field = f; value = value } ∷ []) b
       → MayDraw b.view (Load m obj f value) false
-  may_load f value cell held = may_draw a b stays (Load m obj f value) obj stamp (record { field = f; value = value } ∷ []) inside call held refl
+  may_load f value cell held = may_draw a b stays (Load m obj f value) obj stamp (record { field = f; value = value } ∷ []) inside call held refl refl
       (is_m, refl, record { cell = cell; loaded = field_is_loaded f value })
 
-  pub may_store : (f value : ℕ) → HasCell a obj f → FitsCell a obj f value → HasLoadedFields obj stamp [] b → MayDraw b.view (Store m obj f value) false
-  may_store f value cell kind held = may_draw a b stays (Store m obj f value) obj stamp [] inside call held refl (is_m, refl, record { cell = cell; kind = kind })
+  pub may_store : (f value : ℕ) → HasCell a obj f → FitsCell a obj f value → MayChange (Store m obj f value) obj stamp f value None b
+  may_store f value cell kind = may_change a b stays (Store m obj f value) obj stamp f value None inside call refl (refl, refl)
+      (λ loaded none. (is_m, refl, record { cell = cell; kind = kind }))
 
+  -- a Cas that is done is a change
   pub may_cas :
       (f expect value found : ℕ) (done : Bool) → done ≡ (found == expect)
       → HasCell a obj f → FitsCell a obj f expect → FitsCell a obj f value
+      → done ≡ true → MayChange (Cas m obj f expect value done) obj stamp f value (Some found) b
+  may_cas f expect value found done answer cell expected kind is_done =
+      may_change a b stays (Cas m obj f expect value done) obj stamp f value (Some found) inside call refl (refl, refl, is_done)
+      (λ loaded found_is.
+      (is_m, refl, record { cell = cell; expected = expected; kind = kind; found = found; loaded = found_is found refl; answer = answer }))
+
+  -- and one that is not changes nothing
+  pub may_miss :
+      (f expect value found : ℕ) (done : Bool) → done ≡ (found == expect)
+      → HasCell a obj f → FitsCell a obj f expect → FitsCell a obj f value
       → HasLoadedFields obj stamp (record { field = f; value = found } ∷ []) b
-      → MayDraw b.view (Cas m obj f expect value done) false
-  may_cas f expect value found done answer cell expected kind held =
-      may_draw a b stays (Cas m obj f expect value done) obj stamp (record { field = f; value = found } ∷ []) inside call held refl
-      (is_m, refl, record { cell = cell; expected = expected; kind = kind; found = found; loaded = field_is_loaded f found; answer = answer })
+      → done ≡ false → MayDraw b.view (Cas m obj f expect value done) false × IsPlain (Cas m obj f expect value done)
+  may_miss f expect value found done answer cell expected kind held undone = (
+    may_draw a b stays (Cas m obj f expect value done) obj stamp (record { field = f; value = found } ∷ []) inside call held refl undone
+        (is_m, refl, record { cell = cell; expected = expected; kind = kind; found = found; loaded = field_is_loaded f found; answer = answer }),
+    undone_plain m obj f expect value done undone,
+  )
 
   pub may_new :
       (class : ℕ) → IsNextOf a.view obj → 1 ≤ class → class < length a.view.terms.shape.classes
       → HasLoadedFields obj stamp [] b
       → MayDraw b.view (New m obj class) false
-  may_new class next some declared held = may_draw a b stays (New m obj class) obj stamp [] inside call held refl
+  may_new class next some declared held = may_draw a b stays (New m obj class) obj stamp [] inside call held refl refl
       (is_m, refl, record { next = next; some_class = some; declared = declared })
 
 -- the number of the event is the seat's
@@ -369,15 +492,6 @@ pub new_made :
     (a b c : SeatValue) (m obj class : ℕ) → m ≡ a.view.gate.number → StaysAs a b → MakesEvent (New m obj class) b c
     → MakesEvent (New a.view.gate.number obj class) a c
 new_made a b c m obj class is_m stays made = subst (λ k. MakesEvent (New k obj class) a c) is_m (event_of_call a b c (New m obj class) stays made)
-
--- a Cas that is not done leaves nothing in flight
-pub undone_plain : (m obj f expect value : ℕ) (done : Bool) → done ≡ false → IsPlain (Cas m obj f expect value done)
-undone_plain m obj f expect value done undone h = subst (λ b. left_in_flight h (Cas m obj f expect value b) ≡ None) (sym undone) refl
-
--- a Cas sets its field where it is done, and else it changes nothing
-pub cas_kind : (m obj f expect value : ℕ) (done : Bool) → MatchBool done (IsSetting (Cas m obj f expect value done) f value) (IsPlain (Cas m obj f expect value done))
-cas_kind m obj f expect value true = (refl, refl, refl)
-cas_kind m obj f expect value false = λ heap. refl
 
 -- the object of a quiet hand is in hand
 pub quiet_in_hand : (obj stamp : ℕ) (seat : SeatValue) → HoldsQuietly obj stamp seat → HasInHand seat.view obj

@@ -119,7 +119,7 @@ module _ (before after : SeatValue) (same : IsSameSeat before after) (place : �
     found_is = some_is finds.word x (sym (ap (λ (v : MutView). v.tally.found) finds.view) ∙ found)
 
     pub epoch_fits : x < 2 ^ 32
-    epoch_fits = subst (λ k. k < 2 ^ 32) found_is (finds.epoch is_place)
+    epoch_fits = subst (λ k. k < 2 ^ 32) found_is (finds.fits.epoch is_place)
 
     pub epoch_known : HasEpoch x after
     epoch_known =

@@ -46,4 +46,4 @@ pub record OwesHeader (obj : ℕ) (seat : SeatValue) : Type 0 where
 
 -- the event leaves nothing in flight
 abbrev pub IsPlain : Event → Type 0
-IsPlain event = (heap : Heap) → left_in_flight heap event ≡ None
+IsPlain event = (heap : Heap) (lanes : List ℕ) (index : ℕ) → left_in_flight heap lanes index event ≡ None

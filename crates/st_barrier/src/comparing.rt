@@ -1,15 +1,16 @@
 //! Cas.
-ghost use Rattle.std.specs.Prelude.{◌≡◌, ◌==◌, ◌∷◌, [], ◌<◌, false, MatchBool};
+ghost use Rattle.std.specs.Prelude.{◌≡◌, ◌<◌, Some, true, false};
 ghost use Rattle.st_barrier.specs.Calls.{MayCall, HasCell, FitsCell, MakesEvent, Compares};
-ghost use Rattle.st_barrier.specs.Hands.{HasLoadedFields, HoldsQuietly, IsPlain};
+ghost use Rattle.st_barrier.specs.Hands.{IsPlain};
+ghost use Rattle.st_barrier.specs.Keeping.{HoldsFound, MayChange};
 ghost use Rattle.st_events.specs.declared.events.Event.TheVariants.{Cas};
 ghost use Rattle.st_gate.specs.Phases.{IsInside};
 ghost use Rattle.st_layout.specs.declared.limits.TheConstants.{MOST_FIELDS};
 ghost use Rattle.st_rule.specs.Draws.{MayDraw};
-ghost use Rattle.st_rule.specs.Holding.{IsSetting};
 ghost use Rattle.st_rule.specs.Seats.{IsSeatOf, IsFair, HoldsNothing};
 
-use crate::events::{change, note};
+use crate::changes::FieldChange;
+use crate::events::{apply_change, note};
 use crate::locking::{lock, read};
 use st_events::{Event, Judge};
 use st_gate::Inside;
@@ -72,7 +73,14 @@ fn cas_with<J: Judge, R: Wait>(
         value,
         done,
     };
-    settle(shared, seat, obj, field, value, stamp, event, done);
+    let change = FieldChange {
+        obj,
+        stamp,
+        field,
+        value,
+        event,
+    };
+    settle(shared, seat, change, found, done);
     done
 }
 
@@ -80,26 +88,23 @@ fn cas_with<J: Judge, R: Wait>(
 fn settle<J: Judge>(
     shared: &Shared<J>,
     seat: &mut MutSeat<J>,
-    obj: u32,
-    field: u8,
-    value: u64,
-    stamp: u32,
-    event: Event,
+    change: FieldChange,
+    found: u64,
     done: bool,
 )
     requires table { IsSeatOf J.meant shared.now seat.old }
     requires fair { IsFair seat.old }
-    requires hand { HoldsQuietly obj stamp seat.old }
-    requires event { MayDraw seat.old.view event false }
-    requires field { field < MOST_FIELDS }
-    requires kind { MatchBool done (IsSetting event field value) (IsPlain event) }
-    ensures made { MakesEvent event seat.old seat.new }
+    requires hand { HoldsFound change.obj change.stamp change.field (Some found) seat.old }
+    requires field { change.field < MOST_FIELDS }
+    requires done { done ≡ true → MayChange change.event change.obj change.stamp change.field change.value (Some found) seat.old }
+    requires undone { done ≡ false → MayDraw seat.old.view change.event false × IsPlain change.event }
+    ensures made { MakesEvent change.event seat.old seat.new }
     ensures fair { IsFair seat.new }
     ensures hand { HoldsNothing seat.new }
 {
     if done {
-        change(shared, seat, obj, field, value, event);
+        apply_change(shared, seat, change, Some(found));
     } else {
-        note(shared, seat, obj, stamp, event);
+        note(shared, seat, change.obj, change.stamp, change.event);
     }
 }

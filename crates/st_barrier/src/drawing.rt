@@ -1,13 +1,18 @@
 //! The steps of an event, each with what it leaves to do: a draw leaves a word to write, or the object to give back; a word that is written leaves
 //! the object to give back.
-ghost use Rattle.std.specs.Prelude.{◌<◌, false};
+ghost use Rattle.std.specs.Prelude.{◌≡◌, ◌<◌, false, true};
 ghost use Rattle.st_layout.specs.declared.limits.TheConstants.{MOST_FIELDS};
 ghost use Rattle.st_rule.specs.Draws.{HasInHand, MayDraw, AwaitsField, AwaitsClass};
-ghost use Rattle.st_rule.specs.Holding.{IsSetting, IsMaking};
+ghost use Rattle.st_rule.specs.Holding.{IsMaking};
+ghost use Rattle.st_rule.specs.Needs.{is_any};
 ghost use Rattle.st_rule.specs.Seats.{IsSeatOf, IsFair, HoldsNothing};
 ghost use Rattle.st_barrier.specs.Calls.{MakesEvent};
 ghost use Rattle.st_barrier.specs.Hands.{StaysAs, HoldsQuietly, HasEpoch, IsPlain, OwesHeader, KeepsEpoch};
+ghost use Rattle.st_barrier.specs.Keeping.{HoldsFound, HoldsFields, MayChange, KnowsChecks, Flies, awaiting_of, lanes_in};
 
+use crate::changes::FieldChange;
+use crate::needs::LANE_PLACES;
+use crate::versions::FIELD_PLACES;
 use st_events::{Event, Judge};
 use st_rule::{MutSeat, Shared};
 
@@ -41,26 +46,49 @@ pub(crate) fn give_back<J: Judge>(shared: &Shared<J>, seat: &mut MutSeat<J>, obj
     shared.unlock(seat, obj, stamp);
 }
 
-/// Draws a change of one field. The field is left to write.
-pub(crate) fn draw_change<J: Judge>(
+/// Draws a change whose old version no check needs. The field is left to write.
+pub(crate) fn draw_unneeded<J: Judge>(
     shared: &Shared<J>,
     seat: &mut MutSeat<J>,
-    obj: u32,
-    field: u8,
-    value: u64,
-    event: Event,
+    change: FieldChange,
+    found: Option<u64>,
+    checks: &[u32; LANE_PLACES],
 )
     requires table { IsSeatOf J.meant shared.now seat.old }
-    requires hand { HasInHand seat.old.view obj }
-    requires event { MayDraw seat.old.view event false }
-    requires sets { IsSetting event field value }
-    ensures made { MakesEvent event seat.old seat.new }
+    requires hand { HoldsFound change.obj change.stamp change.field found seat.old }
+    requires event { MayChange change.event change.obj change.stamp change.field change.value found seat.old }
+    requires checks { KnowsChecks change.stamp checks.now seat.old }
+    requires none { is_any (lanes_in checks.now seat.old.view.terms.sizes.lanes) ≡ false }
+    ensures made { MakesEvent change.event seat.old seat.new }
     ensures fair { IsFair seat.new }
-    ensures flight { AwaitsField seat.new.view obj field value }
+    ensures flight { AwaitsField seat.new.view change.obj change.field change.value }
     ensures epoch { KeepsEpoch seat.old seat.new }
 {
-    let _set = (obj, field, value);
-    shared.draw(seat, event, false);
+    shared.draw(seat, change.event, false);
+}
+
+/// Draws a change with an index of the free list, and gives that. The old version is left to keep, and then the field to write.
+pub(crate) fn draw_needed<J: Judge>(
+    shared: &Shared<J>,
+    seat: &mut MutSeat<J>,
+    change: FieldChange,
+    found: Option<u64>,
+    fields: &[u64; FIELD_PLACES],
+    checks: &[u32; LANE_PLACES],
+) -> u32
+    requires table { IsSeatOf J.meant shared.now seat.old }
+    requires hand { HoldsFields change.obj change.stamp change.field found fields.now MOST_FIELDS seat.old }
+    requires event { MayChange change.event change.obj change.stamp change.field change.value found seat.old }
+    requires checks { KnowsChecks change.stamp checks.now seat.old }
+    requires some { is_any (lanes_in checks.now seat.old.view.terms.sizes.lanes) ≡ true }
+    ensures made { MakesEvent change.event seat.old seat.new }
+    ensures fair { IsFair seat.new }
+    ensures flight { Flies change.obj change.field change.value result fields.now 0 seat.new }
+    ensures awaiting { awaiting_of seat.new.view.held ≡ lanes_in checks.now seat.old.view.terms.sizes.lanes }
+    ensures board { seat.new.view.board ≡ seat.old.view.board }
+{
+    let (_ticket, index) = shared.draw(seat, change.event, true);
+    index
 }
 
 /// Draws a New of an object of the class. The class word is left to write.
@@ -80,7 +108,6 @@ pub(crate) fn draw_new<J: Judge>(
     ensures flight { AwaitsClass seat.new.view obj class }
     ensures epoch { KeepsEpoch seat.old seat.new }
 {
-    let _made = (obj, class);
     shared.draw(seat, event, false);
 }
 

@@ -3,18 +3,24 @@
 //! The order is what makes the event one step for all others: while the object is held nobody else can look at it or change it, so what is
 //! written after the draw counts as written at the draw. A store that gave the object back before its draw would let another store in
 //! between, and its ticket would come too late.
-ghost use Rattle.std.specs.Prelude.{◌≡◌, ◌<◌, false};
+ghost use Rattle.std.specs.Prelude.{◌≡◌, ◌<◌, false, true};
 ghost use Rattle.st_layout.specs.declared.limits.TheConstants.{MOST_FIELDS};
 ghost use Rattle.st_rule.specs.declared.views.Phase.TheVariants.{Inside};
 ghost use Rattle.st_rule.specs.Draws.{HasInHand, MayDraw, AwaitsField, AwaitsClass};
-ghost use Rattle.st_rule.specs.Holding.{IsSetting, IsMaking};
+ghost use Rattle.st_rule.specs.Holding.{IsMaking};
+ghost use Rattle.st_rule.specs.Needs.{is_any};
 ghost use Rattle.st_rule.specs.Seats.{IsSeatOf, IsFair, HoldsNothing};
 ghost use Rattle.st_barrier.specs.Calls.{MakesEvent};
-ghost use Rattle.st_barrier.specs.Hands.{StaysAs, HoldsQuietly, HasEpoch, IsPlain};
+ghost use Rattle.st_barrier.specs.Hands.{StaysAs, HoldsQuietly, HasEpoch, IsPlain, KeepsEpoch};
+ghost use Rattle.st_barrier.specs.Keeping.{HoldsFound, MayChange, KnowsChecks, lanes_in};
 
+use crate::changes::FieldChange;
 use crate::drawing::{
-    draw_change, draw_new, draw_plain, give_back, give_back_changed, write_class, write_field,
+    draw_needed, draw_new, draw_plain, draw_unneeded, give_back, give_back_changed, write_class,
+    write_field,
 };
+use crate::needs::{LANE_PLACES, is_any_needed, needing_checks};
+use crate::versions::{forward, keep_version, load_fields};
 use st_events::{Event, Judge};
 use st_rule::{MutSeat, Shared};
 
@@ -38,28 +44,76 @@ pub(crate) fn note<J: Judge>(
     give_back(shared, seat, obj, stamp);
 }
 
-/// A change of one field. The object gets the epoch as its stamp.
-pub(crate) fn change<J: Judge>(
+/// A change of one field. What was found of the field already is told. The object gets the epoch as its stamp.
+pub(crate) fn apply_change<J: Judge>(
     shared: &Shared<J>,
     seat: &mut MutSeat<J>,
-    obj: u32,
-    field: u8,
-    value: u64,
-    event: Event,
+    change: FieldChange,
+    found: Option<u64>,
 )
     requires table { IsSeatOf J.meant shared.now seat.old }
     requires fair { IsFair seat.old }
-    requires hand { HasInHand seat.old.view obj }
-    requires event { MayDraw seat.old.view event false }
-    requires sets { IsSetting event field value }
-    requires field { field < MOST_FIELDS }
-    ensures made { MakesEvent event seat.old seat.new }
+    requires hand { HoldsFound change.obj change.stamp change.field found seat.old }
+    requires event { MayChange change.event change.obj change.stamp change.field change.value found seat.old }
+    requires field { change.field < MOST_FIELDS }
+    ensures made { MakesEvent change.event seat.old seat.new }
     ensures fair { IsFair seat.new }
     ensures hand { HoldsNothing seat.new }
 {
     let epoch = load_epoch(shared, seat);
-    draw_change(shared, seat, obj, field, value, event);
-    finish_change(shared, seat, obj, field, value, epoch);
+    let checks = needing_checks(shared, seat, change.stamp, epoch);
+    draw_change(shared, seat, change, found, &checks);
+    finish_change(shared, seat, change.obj, change.field, change.value, epoch);
+}
+
+/// Draws the change, and keeps the old version first where some check needs it.
+fn draw_change<J: Judge>(
+    shared: &Shared<J>,
+    seat: &mut MutSeat<J>,
+    change: FieldChange,
+    found: Option<u64>,
+    checks: &[u32; LANE_PLACES],
+)
+    requires table { IsSeatOf J.meant shared.now seat.old }
+    requires fair { IsFair seat.old }
+    requires hand { HoldsFound change.obj change.stamp change.field found seat.old }
+    requires event { MayChange change.event change.obj change.stamp change.field change.value found seat.old }
+    requires checks { KnowsChecks change.stamp checks.now seat.old }
+    ensures made { MakesEvent change.event seat.old seat.new }
+    ensures fair { IsFair seat.new }
+    ensures flight { AwaitsField seat.new.view change.obj change.field change.value }
+    ensures epoch { KeepsEpoch seat.old seat.new }
+{
+    if is_any_needed(checks, shared.sizes().lanes) {
+        draw_and_keep(shared, seat, change, found, checks);
+    } else {
+        draw_unneeded(shared, seat, change, found, checks);
+    }
+}
+
+/// Draws a change whose old version some check needs, keeps that, and tells each lane of it.
+fn draw_and_keep<J: Judge>(
+    shared: &Shared<J>,
+    seat: &mut MutSeat<J>,
+    change: FieldChange,
+    found: Option<u64>,
+    checks: &[u32; LANE_PLACES],
+)
+    requires table { IsSeatOf J.meant shared.now seat.old }
+    requires fair { IsFair seat.old }
+    requires hand { HoldsFound change.obj change.stamp change.field found seat.old }
+    requires event { MayChange change.event change.obj change.stamp change.field change.value found seat.old }
+    requires checks { KnowsChecks change.stamp checks.now seat.old }
+    requires some { is_any (lanes_in checks.now seat.old.view.terms.sizes.lanes) ≡ true }
+    ensures made { MakesEvent change.event seat.old seat.new }
+    ensures fair { IsFair seat.new }
+    ensures flight { AwaitsField seat.new.view change.obj change.field change.value }
+    ensures epoch { KeepsEpoch seat.old seat.new }
+{
+    let fields = load_fields(shared, seat, change, found);
+    let index = draw_needed(shared, seat, change, found, &fields, checks);
+    let target = keep_version(shared, seat, change, &fields, index);
+    forward(shared, seat, change, checks, target);
 }
 
 /// Writes the field of a change that is drawn, and gives the object back.

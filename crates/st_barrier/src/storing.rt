@@ -4,7 +4,8 @@ ghost use Rattle.st_events.specs.declared.events.Event.TheVariants.{Store};
 ghost use Rattle.st_gate.specs.Phases.{IsInside};
 ghost use Rattle.st_rule.specs.Seats.{IsSeatOf, IsFair, HoldsNothing};
 
-use crate::events::change;
+use crate::changes::FieldChange;
+use crate::events::apply_change;
 use crate::locking::lock;
 use st_events::{Event, Judge};
 use st_gate::Inside;
@@ -51,12 +52,19 @@ fn store_with<J: Judge, R: Wait>(
     ensures hand { HoldsNothing seat.new }
 {
     let m = seat.number();
-    lock(rt, shared, seat, obj);
+    let stamp = lock(rt, shared, seat, obj);
     let event = Event::Store {
         m,
         obj,
         field,
         value,
     };
-    change(shared, seat, obj, field, value, event);
+    let change = FieldChange {
+        obj,
+        stamp,
+        field,
+        value,
+        event,
+    };
+    apply_change(shared, seat, change, None);
 }

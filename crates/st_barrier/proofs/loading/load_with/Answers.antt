@@ -25,7 +25,7 @@ note-requires-clause-event g c =
     c.args.obj c.lock-stamp.result c.args.field c.read-value.result c.requires.cell c.read-value.ensures.hand
 
 pub note-requires-clause-plain : goal.note-requires-clause-plain
-note-requires-clause-plain g c = λ heap. refl
+note-requires-clause-plain g c = λ heap lanes index. refl
 
 pub returns-clause-load : goal.returns-clause-load
 returns-clause-load g c =
