@@ -1,2 +1,3 @@
 pub mod CheckLemmas
 pub mod PieceLemmas
+pub mod JsonLemmas

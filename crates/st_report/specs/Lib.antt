@@ -1,5 +1,6 @@
 -- The definitions that contracts cite.
 pub mod Checks
 pub mod Counts
+pub mod Json
 pub mod Report
 pub mod Status

@@ -1,13 +1,16 @@
 //! What a run writes: its report, the same as JSON, and the status that it ends with.
 #![tactic(auto)]
 
+mod as_json;
 mod checks;
+mod objects;
 mod reports;
 mod statuses;
 mod tallies;
 #[cfg(test)]
 mod tests;
 
+pub use as_json::report_json;
 pub use reports::report;
 pub use statuses::{
     STATUS_CHECK_FAILS, STATUS_HOLDS, STATUS_UNDECIDED, STATUS_UNFINISHED, run_status,

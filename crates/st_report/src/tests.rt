@@ -1,6 +1,6 @@
 //! The reports of small runs.
 
-use crate::{report, run_status};
+use crate::{report, report_json, run_status};
 use st_events::{Args, End, Event, Plain, Ran, Site, Verdict};
 use std::alloc::{AllocError, Global};
 use std::test::Fail;
@@ -77,5 +77,22 @@ fn a_run_has_its_report_and_its_status(rt: HostRuntime) -> Result<(), Fail> {
         assert_eq!(rt; written.as_slice(), text.as_bytes());
         assert_eq!(rt; run_status(&ran), status);
     }
+    Ok(())
+}
+
+#[test]
+fn a_run_has_its_report_as_json(rt: HostRuntime) -> Result<(), Fail> {
+    let place = Site { line: 4, column: 3 };
+    let ran = ran_two(rt.alloc(), Verdict::Plain(Plain::Holds), End::Finished)?;
+    let text =
+        "{\"checks\":[{\"column\":3,\"event\":2,\"line\":4,\"thread\":\"t\",\"verdict\":\"holds\"}],\
+        \"counts\":{\"checks\":1,\"fails\":0,\"holds\":1,\"other\":0},\
+        \"threads\":[{\"end\":\"finished\",\"name\":\"t\"}]}\n";
+    let written = report_json(rt.alloc(), &[b"t".as_slice()], &[place], &ran)?;
+    assert_eq!(rt; written.as_slice(), text.as_bytes());
+    let other =
+        "{\"checks\":[],\"counts\":{\"checks\":1,\"fails\":0,\"holds\":1,\"other\":0},\"threads\":[]}\n";
+    let written = report_json(rt.alloc(), &[], &[place], &ran)?;
+    assert_eq!(rt; written.as_slice(), other.as_bytes());
     Ok(())
 }
