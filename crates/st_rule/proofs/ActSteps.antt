@@ -1,41 +1,34 @@
 -- The loads, the lock, the unlock and the stores of a holder keep the rule, whatever the table is when the word changes.
-use Rattle.std.proofs.Common.{◌≡◌, ◌≢◌, ℕ, zero, suc, ◌+◌, ◌^◌, ◌<◌, ◌≤◌, ◌⊎◌, ◌==◌, eqb, Bool, true, false, if◌then◌else◌, List, []}
+use Rattle.std.proofs.Common.{◌≡◌, ◌≢◌, ℕ, suc, ◌^◌, ◌<◌, ◌≤◌, ◌⊎◌, ◌==◌, eqb, Bool, true, false, if◌then◌else◌, List, []}
 use Rattle.std.proofs.Common.{◌∷◌, Option, Some, None, set}
 use Rattle.std.proofs.Common.{get_or, sym, refl, ap, subst, ◌∙◌, arith, ⊎_elim, inl, inr, eq-eqb, ne_eqb, eqb-true}
-use Rattle.std.specs.Prelude.{IsSome}
-use mathlib.Core.Logic.{◌↔◌, dite}
-use native.Mathlib.Decide.{ℕ_discrete}
 use mathlib.Core.Option.{some}
-use mathlib.Core.List.{IsPrefix}
 use prog.Atomic.{either}
 use Rattle.atomic_table.specs.Table.{State, Act, keeps, Valid, carried_after, stepped, Allows}
 use Rattle.atomic_table.proofs.Lists.{exchanged}
-use Rattle.st_layout.specs.Names.{WordName, ClosingWord, ClockWord, EpochWord, AvailableWord, FlagWord, LaneWord, ClassWord, HeaderWord, ForwardWord, FieldWord}
-use Rattle.st_layout.specs.Names.{CopyWord, FreeWord, HasWord, cells_of}
+use Rattle.st_layout.specs.Names.{ClosingWord, ClockWord, EpochWord, AvailableWord, FlagWord, LaneWord, ClassWord, HeaderWord, ForwardWord, FieldWord}
+use Rattle.st_layout.specs.Names.{CopyWord, FreeWord, cells_of}
 use Rattle.st_layout.specs.declared.limits.TheConstants.{MOST_FIELDS}
 use Rattle.st_layout.specs.Layout.{word_of}
 use Rattle.st_layout.specs.Packed.{packed, low_half}
-use Rattle.st_layout.proofs.Distinct.{words_distinct}
-use Rattle.st_events.specs.declared.events.Event.{Event}
-use Rattle.st_events.specs.World.{World, at, is_among}
-use Rattle.st_events.specs.Legal.{IsLegal}
+use Rattle.st_events.specs.World.{at, is_among}
 use Rattle.st_rule.specs.declared.views.Flight.{Flight}
 use Rattle.st_rule.specs.declared.views.Held.{Held}
 use Rattle.st_rule.specs.declared.views.Phase.{Phase}
-use Rattle.st_rule.specs.declared.views.Phase.TheVariants.{Outside, Inside, Alone}
+use Rattle.st_rule.specs.declared.views.Phase.TheVariants.{Inside}
 use Rattle.st_rule.specs.declared.views.Terms.{Terms}
 use Rattle.st_rule.specs.declared.views.MutView.{MutView}
 use Rattle.st_rule.specs.declared.views.View.{View}
 use Rattle.st_rule.specs.declared.views.View.TheVariants.{Mut}
-use Rattle.st_rule.specs.Board.{Board, Displays, plan_of, written, same_name}
+use Rattle.st_rule.specs.Board.{Board, Displays, plan_of, written}
 use Rattle.st_rule.specs.Draws.{MayLock, MayUnlock, HasInHand, AwaitsField, AwaitsClass, IsNextOf}
-use Rattle.st_rule.specs.Holding.{Holds, IsNext, IsSetting, IsMaking, holding, flight_of, shown_stamp, word_loaded}
+use Rattle.st_rule.specs.Holding.{Holds, holding, flight_of, shown_stamp, word_loaded}
 use Rattle.st_rule.specs.Board.{stays_loaded}
 use Rattle.st_rule.specs.Parts.{Sits, HasLoaded, ObjectPart}
 use Rattle.st_rule.specs.Plays.{Seated, Becomes, Learns, LoadsBoard, IsBoardWord, Locks}
-use Rattle.st_rule.specs.Rule.{Told, Moment, HoldsAt, IsSoundTable, world_of, flights_of, LanesAt, CopiesAt}
+use Rattle.st_rule.specs.Rule.{Told, Moment, HoldsAt, IsSoundTable, world_of, flights_of, CopiesAt}
 use Rattle.st_rule.specs.Turns.{looked_last, board_loaded, locked_at, locked, unlocked, field_found, word_written, with_field, with_written, landed}
-use Rattle.st_rule.proofs.BoardLemmas.{plan_fits, load_displays, same_name_self}
+use Rattle.st_rule.proofs.BoardLemmas.{load_displays}
 use Rattle.st_rule.proofs.ViewLemmas.{mut_is, at_here, at_else, at_same}
 use Rattle.st_rule.proofs.LaneLemmas.{lanes_settled, one_flight, none_among}
 use Rattle.st_rule.proofs.CopyLemmas.{ComesFrom, copies_kept}
@@ -45,8 +38,8 @@ use Rattle.st_rule.proofs.ReachLemmas.{may_stand, holder_fits, fresh_header, epo
 use Rattle.st_rule.proofs.PackedLemmas.{packed_halves}
 use Rattle.st_rule.proofs.TurnLemmas.{StaysSeated, StaysOnBoard, VersionsAt, leaves_board}
 use Rattle.st_rule.proofs.LoadedLemmas.{headers_fleet, classes_fleet, fields_fleet, written_quiet, same_loaded}
-use Rattle.st_rule.proofs.HoldLemmas.{objects_locked, objects_unlocked, objects_found, objects_stored, objects_classed, at_field, field_elsewhere, holds_one, holds_none}
-use Rattle.st_rule.proofs.GateSteps.{becomes, learns, stays_of, found_is, store_fits, is_phase, acts_keep, still_keeps, phase_is, journal_legal, holds_inside}
+use Rattle.st_rule.proofs.HoldLemmas.{objects_locked, objects_unlocked, objects_found, objects_stored, objects_classed, field_elsewhere, holds_one, holds_none}
+use Rattle.st_rule.proofs.GateSteps.{becomes, learns, stays_of, found_is, store_fits, acts_keep, still_keeps, journal_legal, holds_inside}
 
 module _ (told : Told) (slots id : ℕ) (me : Seated) (v : MutView) (is : me.0 ≡ Mut v) where
   -- last look

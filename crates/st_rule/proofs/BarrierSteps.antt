@@ -1,13 +1,13 @@
 -- The copy store and the forward store of a holder keep the rule, whatever the table is when the word changes.
-use Rattle.std.proofs.Common.{◌≡◌, ◌≢◌, ℕ, zero, suc, ◌+◌, ◌^◌, ◌<◌, ◌≤◌, ◌⊎◌, ◌==◌, ◌&&◌, Bool, true, false, if◌then◌else◌, List, []}
-use Rattle.std.proofs.Common.{Option, Some, None, set}
-use Rattle.std.proofs.Common.{get_or, sym, refl, ap, subst, ◌∙◌, arith, ⊎_elim, inl, inr}
+use Rattle.std.proofs.Common.{◌≡◌, ◌≢◌, ℕ, zero, suc, ◌+◌, ◌^◌, ◌<◌, ◌≤◌, ◌⊎◌, true, false}
+use Rattle.std.proofs.Common.{Option, Some, set}
+use Rattle.std.proofs.Common.{sym, refl, ap, subst, ◌∙◌, arith, ⊎_elim, inl, inr}
 use mathlib.Core.Logic.{dite}
 use native.Mathlib.Decide.{ℕ_discrete}
 use mathlib.Core.Option.{some}
 use Rattle.atomic_table.specs.Table.{State, keeps, Allows}
 use Rattle.st_layout.specs.declared.limits.TheConstants.{MOST_FIELDS}
-use Rattle.st_layout.specs.Names.{WordName, ClockWord, EpochWord, AvailableWord, FlagWord, LaneWord, ClassWord, HeaderWord, ForwardWord, FieldWord, CopyWord, FreeWord}
+use Rattle.st_layout.specs.Names.{WordName, ClockWord, AvailableWord, LaneWord, ClassWord, HeaderWord, ForwardWord, FieldWord, CopyWord, FreeWord}
 use Rattle.st_layout.specs.Names.{HasWord, cells_of}
 use Rattle.st_layout.specs.Layout.{word_of}
 use Rattle.st_layout.specs.Packed.{packed, high_half, low_half}
@@ -22,19 +22,19 @@ use Rattle.st_rule.specs.declared.views.Phase.TheVariants.{Outside, Entering, In
 use Rattle.st_rule.specs.declared.views.Terms.{Terms}
 use Rattle.st_rule.specs.declared.views.View.{View}
 use Rattle.st_rule.specs.declared.views.View.TheVariants.{Mut}
-use Rattle.st_rule.specs.Board.{Board, Displays, plan_of, written, same_name, stays_loaded}
-use Rattle.st_rule.specs.Holding.{Holds, holding, flight_of, field_loaded, word_loaded}
+use Rattle.st_rule.specs.Board.{Displays, plan_of, written, same_name, stays_loaded}
+use Rattle.st_rule.specs.Holding.{word_loaded}
 use Rattle.st_rule.specs.Needs.{HasFlight, HasFreeCopy, AwaitsCopyWord, AwaitsForward, IsVersionWord, IsTarget}
 use Rattle.st_rule.specs.Parts.{Sits, ObjectPart}
 use Rattle.st_rule.specs.Plays.{Seated, Becomes}
-use Rattle.st_rule.specs.Rule.{Told, Moment, HoldsAt, IsSoundTable, world_of, flights_of, LanesAt, CopiesAt}
+use Rattle.st_rule.specs.Rule.{Told, Moment, HoldsAt, IsSoundTable, world_of, flights_of}
 use Rattle.st_rule.specs.Turns.{copy_stored, forwarded, with_built, with_forward, one_built, owed_less}
 use Rattle.st_rule.specs.Versions.{version_word}
 use Rattle.st_rule.specs.Views.{is_closer}
-use Rattle.st_rule.proofs.ActSteps.{phases', F, holder_keeps, held_alone, flight_is, launched_before, grip_is, is_inside, inside_is, others}
+use Rattle.st_rule.proofs.ActSteps.{phases', holder_keeps, held_alone, flight_is, launched_before, grip_is, is_inside, inside_is, others}
 use Rattle.st_rule.proofs.CopyLemmas.{ComesFrom, copies_kept, copies_forwarded}
 use Rattle.st_rule.proofs.GateSteps.{becomes, store_fits, stays_of}
-use Rattle.st_rule.proofs.HoldLemmas.{at_field, field_elsewhere, objects_reflown, objects_forwarded, landed_there}
+use Rattle.st_rule.proofs.HoldLemmas.{at_field, field_other, field_elsewhere, objects_reflown, objects_forwarded, landed_there}
 use Rattle.st_rule.proofs.LaneLemmas.{lanes_built, lanes_forwarded, one_flight}
 use Rattle.st_rule.proofs.LoadedLemmas.{written_else}
 use Rattle.st_rule.proofs.ObjectLemmas.{flights_taken}
@@ -64,7 +64,7 @@ not_alone : Inside ≢ Alone
 not_alone e = absurd (cc e)
 
 -- a copy's number is no sign that a version is lost
-copy_is_not_lost : (copies c : ℕ) → copies ≤ MOST_COPIES → c < copies → suc c ≢ LOST
+pub copy_is_not_lost : (copies c : ℕ) → copies ≤ MOST_COPIES → c < copies → suc c ≢ LOST
 copy_is_not_lost copies c most below e = absurd (omega (arith, most, below, e))
 
 module _ (told : Told) (slots id : ℕ) (me : Seated) (v : MutView) (is : me.0 ≡ Mut v) (s : State Unit View) (m : Moment) (h : HoldsAt told m s.words s.views)
@@ -96,9 +96,11 @@ module _ (told : Told) (slots id : ℕ) (me : Seated) (v : MutView) (is : me.0 �
 
   -- a store of such a word leaves what anyone keeps
   lone_quiet : (inside : v.gate.phase ≡ Inside) (name : WordName) (value : ℕ) → IsLoneWord name → (clock : written name value m.board ClockWord ≡ m.board ClockWord)
+      → ((o l : ℕ) → high_half (m.board (ForwardWord o l)) ≡ m.board (LaneWord l) → written name value m.board (ForwardWord o l) ≡ m.board (ForwardWord o l))
       → StaysOnBoard (at v.gate.number v.gate.phase m.phase) m.board (written name value m.board)
-  lone_quiet inside name value lone clock = record {
+  lone_quiet inside name value lone clock forwarded = record {
     clock = clock;
+    forwarded = forwarded;
     board = λ other keeps'. written_else Inside name other value m.board (lone Inside not_alone) keeps' (same_name other name) refl;
     loaded = λ j other keeps'. written_else (phases' told slots id me v is s m h sits j) name other value m.board
         (lone (phases' told slots id me v is s m h sits j) (none_alone inside j)) keeps' (same_name other name) refl;
@@ -181,7 +183,7 @@ module _ (told : Told) (slots id : ℕ) (me : Seated) (v : MutView) (is : me.0 �
       let mine = h.copy_part.indexes hand.object y free.index (flies_is awaits.has) free.drawn in
       holder_keeps told slots id me v is s m h sits (copy_stored v) (stays_of v (copy_stored v) refl refl refl refl refl) refl refl refl (Some (record hand { flight = Some z }))
       (ap with_built awaits.has.held ∙ ap (λ x. Some (record hand { flight = one_built x })) awaits.has.flies)
-      (written (CopyWord c y.built) value m.board) (lone_quiet (inside awaits.has) (CopyWord c y.built) value (copies_are_lone c y.built) refl) (λ j. refl) refl (at hand.object (suc n) m.holder)
+      (written (CopyWord c y.built) value m.board) (lone_quiet (inside awaits.has) (CopyWord c y.built) value (copies_are_lone c y.built) refl (λ o l epoch. refl)) (λ j. refl) refl (at hand.object (suc n) m.holder)
       (objects_with awaits.has z refl refl refl)
       (subst (λ (x : ℕ → Option Flight). VersionsAt told m x (written (CopyWord c y.built) value m.board)) (λ i o. sym (flights_now awaits.has z o) i) (
         lanes_built told.terms.sizes w (λ l. m.board (LaneWord l)) (m.board AvailableWord) flights (λ o f. m.board (FieldWord o f)) (λ o l. m.board (ForwardWord o l))
@@ -219,7 +221,7 @@ module _ (told : Told) (slots id : ℕ) (me : Seated) (v : MutView) (is : me.0 �
       holder_keeps told slots id me v is s m h sits (forwarded lane v) (stays_of v (forwarded lane v) refl refl refl refl refl) refl refl refl (Some (record hand { flight = Some z }))
       (ap (with_forward lane) awaits.has.held ∙ ap (λ x. Some (record hand { flight = owed_less lane x })) awaits.has.flies)
       (written (ForwardWord hand.object lane) (packed (m.board (LaneWord lane)) low) m.board)
-      (lone_quiet (inside awaits.has) (ForwardWord hand.object lane) (packed (m.board (LaneWord lane)) low) (forwards_are_lone hand.object lane) refl) (λ j. refl) refl (at hand.object (suc n) m.holder)
+      (lone_quiet (inside awaits.has) (ForwardWord hand.object lane) (packed (m.board (LaneWord lane)) low) (forwards_are_lone hand.object lane) refl (still_told awaits.has lane awaits.awaits (packed (m.board (LaneWord lane)) low))) (λ j. refl) refl (at hand.object (suc n) m.holder)
       (objects_forwarded told.terms.sizes w (phases' told slots id me v is s m h sits) (at n (Some (record hand { flight = Some z })) m.grip) (at hand.object (suc n) m.holder)
       (λ o. m.board (HeaderWord o)) (λ o. m.board (ClassWord o)) (λ o f. m.board (FieldWord o f)) (λ o l. m.board (ForwardWord o l))
       (at_field hand.object lane (packed (m.board (LaneWord lane)) low) (λ o l. m.board (ForwardWord o l)))
@@ -244,6 +246,16 @@ module _ (told : Told) (slots id : ℕ) (me : Seated) (v : MutView) (is : me.0 �
       (λ i. (awaits.object_is i, sym is_new i, value_is i))
       (store_fits told id v m s.words s.views h sits word (ForwardWord object lane) value is_word (within, lane_within)))
     where
+      -- a lane that is owed its word has none of its check
+      still_told : (has : HasFlight v) (lane : ℕ) → is_among has.flight.awaiting lane ≡ true → (word : ℕ)
+          → (o l : ℕ) → high_half (m.board (ForwardWord o l)) ≡ m.board (LaneWord l) → written (ForwardWord has.hand.object lane) word m.board (ForwardWord o l) ≡ m.board (ForwardWord o l)
+      still_told has lane awaits' word o l epoch = dite (ℕ_discrete o has.hand.object)
+          (λ here. dite (ℕ_discrete l lane)
+          (λ same. absurd ((h.lane_part.owed has.hand.object lane has.flight (flies_is has) awaits').apart
+          (subst (λ (p : ℕ × ℕ). high_half (m.board (ForwardWord p.0 p.1)) ≡ m.board (LaneWord p.1)) (λ i. (here i, same i)) epoch)))
+          (λ other. field_other has.hand.object lane word (λ o l. m.board (ForwardWord o l)) o l other))
+          (λ other. field_elsewhere has.hand.object lane word (λ o l. m.board (ForwardWord o l)) o l other)
+
       -- what the low half of the word is: it names the complete copy, or says that the version is lost
       target_is :
           (has : HasFlight v) (check value lane : ℕ) → is_among has.flight.awaiting lane ≡ true → IsTarget v has.flight check value

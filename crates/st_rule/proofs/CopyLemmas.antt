@@ -1,18 +1,17 @@
 -- What a holder's step on its object makes of the part on copies.
-use Rattle.std.proofs.Common.{◌≡◌, ◌≢◌, ℕ, zero, suc, ◌+◌, ◌<◌, ◌≤◌, ◌⊎◌, ◌==◌, Bool, true, false, not, nat_lt, List, [], ◌∷◌, length}
+use Rattle.std.proofs.Common.{◌≡◌, ◌≢◌, ℕ, suc, ◌+◌, ◌<◌, ◌≤◌, ◌⊎◌, length}
 use Rattle.std.proofs.Common.{Option, Some, None, sym, refl, ap, subst, ◌∙◌, arith, ⊎_elim, inl, inr}
-use Rattle.std.proofs.lemmas.Bool.Decides.{nat_tests}
 use mathlib.Core.Logic.{dite}
 use native.Mathlib.Decide.{ℕ_discrete}
 use Rattle.st_layout.specs.declared.limits.TheConstants.{MOST_FIELDS}
-use Rattle.st_layout.specs.Packed.{packed, high_half, low_half}
+use Rattle.st_layout.specs.Packed.{high_half, low_half}
 use Rattle.st_events.specs.declared.limits.Sizes.{Sizes}
-use Rattle.st_events.specs.World.{World, at, is_among, is_full}
+use Rattle.st_events.specs.World.{World, at, is_among}
 use Rattle.st_rule.specs.declared.forwards.TheConstants.{LOST}
 use Rattle.st_rule.specs.declared.views.Flight.{Flight}
 use Rattle.st_rule.specs.Versions.{IsNamed, CopyPart}
 use Rattle.st_rule.proofs.HoldLemmas.{at_field, field_here, field_other, field_elsewhere}
-use Rattle.st_rule.proofs.LaneLemmas.{each_flight, one_flight, no_flight}
+use Rattle.st_rule.proofs.LaneLemmas.{each_flight, one_flight}
 use Rattle.st_rule.proofs.ViewLemmas.{at_here, at_else}
 
 -- what is in flight at the object afterwards was before, with the same index, and of its copy no less is written

@@ -1,35 +1,32 @@
 -- One event more, drawn by who holds its object: it is legal, leaves all other objects, and what the object's words show.
-use Rattle.std.proofs.Common.{◌≡◌, ◌≢◌, ℕ, zero, suc, ◌+◌, ◌<◌, ◌≤◌, ◌⊎◌, ◌==◌, ◌&&◌, not, cond, Bool, true, false, if◌then◌else◌, List, []}
-use Rattle.std.proofs.Common.{◌∷◌, ◌++◌, length, map}
-use Rattle.std.proofs.Common.{Option, Some, None, slice_get, sym, refl, ap, subst, ◌∙◌, arith, ⊎_elim, inl, inr, eq-eqb, ne_eqb}
+use Rattle.std.proofs.Common.{◌≡◌, ◌≢◌, ℕ, zero, suc, ◌+◌, ◌<◌, ◌==◌, cond, true, false, List, []}
+use Rattle.std.proofs.Common.{◌∷◌, length, map}
+use Rattle.std.proofs.Common.{Option, Some, None, slice_get, sym, refl, ap, subst, ◌∙◌, arith, eq-eqb, ne_eqb}
 use Rattle.std.specs.Prelude.{IsSome, unwrap_or, slice_set}
 use Rattle.std.specs.Option.{option_map}
 use Rattle.std.proofs.lemmas.Option.{slice_get_within, slice_get-get_or}
-use Rattle.std.proofs.lemmas.Bool.Decides.{nat_tests}
 use mathlib.Core.Logic.{dite}
 use native.Mathlib.Decide.{ℕ_discrete}
-use Rattle.st_layout.specs.Packed.{packed}
 use Rattle.st_events.specs.declared.events.Event.{Event}
 use Rattle.st_events.specs.declared.events.Event.TheVariants.{New, Load, Store, Cas, Launch, Retire}
 use Rattle.st_events.specs.declared.limits.Sizes.{Sizes}
 use Rattle.st_events.specs.declared.shapes.Kind.{Kind}
 use Rattle.st_events.specs.Heap.{Heap, Object, word_of, word_at, class_at, with_object, with_word, set_word, fresh}
 use Rattle.st_events.specs.History.{is_own}
-use Rattle.st_events.specs.Legal.{IsLegalNext, fits_cell, kind_of_field, has_kind_if_any, is_word}
-use Rattle.st_events.specs.LegalEvents.{LegalNew, LegalLoad, LegalStore, LegalCas}
+use Rattle.st_events.specs.Legal.{fits_cell, kind_of_field, has_kind_if_any}
 use Rattle.st_events.specs.Shape.{ShapeLists, kinds_of}
 use Rattle.st_events.specs.Sound.{Extends}
-use Rattle.st_events.specs.World.{World, next, changed, at}
+use Rattle.st_events.specs.World.{World, next, changed}
 use Rattle.st_events.proofs.HeapLemmas.{set_then_get}
-use Rattle.st_events.proofs.SoundHeap.{object_put_here, object_put_elsewhere, word_set_here, word_set_elsewhere, word_set_keeps_class}
+use Rattle.st_events.proofs.SoundHeap.{object_put_here, object_put_elsewhere, word_set_here, word_set_elsewhere}
 use Rattle.st_events.proofs.SoundTypes.{KeepsClasses, kept_has_kind_if_any}
 use Rattle.st_rule.specs.declared.views.Flight.{Flight}
 use Rattle.st_rule.specs.declared.views.Held.{Held}
 use Rattle.st_rule.specs.declared.views.MutView.{MutView}
 use Rattle.st_rule.specs.Draws.{Suits}
-use Rattle.st_rule.specs.Holding.{shown_class, shown_field, sets_field, makes, HasLanded, word_or_zero, class_or_zero}
-use Rattle.st_rule.proofs.ViewLemmas.{at_here, at_else}
-use Rattle.st_rule.proofs.ObjectLemmas.{LeavesElsewhere, leaves_all}
+use Rattle.st_rule.specs.Holding.{shown_field, sets_field, word_or_zero}
+use Rattle.st_rule.proofs.ViewLemmas.{at_else}
+use Rattle.st_rule.proofs.ObjectLemmas.{LeavesElsewhere}
 
 -- ---- whose event it is
 

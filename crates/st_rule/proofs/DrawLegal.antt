@@ -1,16 +1,14 @@
 -- An event that its seat may draw is legal after the whole journal, whatever others drew since the seat last saw it.
-use Rattle.std.proofs.Common.{◌≡◌, ◌≢◌, ℕ, suc, ◌+◌, ◌*◌, ◌<◌, ◌≤◌, ◌==◌, Bool, true, false, List, [], ◌∷◌, ◌++◌, length, Option, Some, None}
-use Rattle.std.proofs.Common.{sym, refl, ap, subst, ◌∙◌, arith}
+use Rattle.std.proofs.Common.{◌≡◌, ℕ, suc, ◌<◌, Bool, true, false, List, length, Some}
+use Rattle.std.proofs.Common.{sym, refl, ap, subst, ◌∙◌}
 use Rattle.std.specs.Prelude.{IsSome}
-use mathlib.Core.List.{IsPrefix}
 use Rattle.st_layout.specs.Names.{FieldWord, ClassWord, HeaderWord, ForwardWord}
 use Rattle.st_events.specs.declared.events.Event.{Event}
 use Rattle.st_events.specs.declared.events.Event.TheVariants.{New, Load, Store, Cas, Launch, Retire}
-use Rattle.st_events.specs.Heap.{Heap, word_at}
+use Rattle.st_events.specs.Heap.{word_at}
 use Rattle.st_events.specs.Legal.{IsLegalNext, fits_cell, is_word}
 use Rattle.st_events.specs.World.{World, next, at}
 use Rattle.st_events.proofs.LegalEvents.{new_is_legal, load_is_legal, store_is_legal, cas_is_legal}
-use Rattle.st_rule.specs.declared.views.Flight.{Flight}
 use Rattle.st_rule.specs.declared.views.Held.{Held}
 use Rattle.st_rule.specs.declared.views.MutView.{MutView}
 use Rattle.st_rule.specs.declared.views.Phase.TheVariants.{Inside}
@@ -20,13 +18,12 @@ use Rattle.st_events.specs.declared.limits.Sizes.{Sizes}
 use Rattle.st_rule.specs.declared.views.View.{View}
 use Rattle.st_rule.specs.declared.views.View.TheVariants.{Mut}
 use Rattle.st_rule.specs.Draws.{MayDraw, Suits, heap_seen, left_in_flight}
-use Rattle.st_rule.specs.Holding.{Holds, field_loaded, word_or_zero}
+use Rattle.st_rule.specs.Holding.{field_loaded}
 use Rattle.st_rule.specs.Needs.{needing_lanes}
 use Rattle.st_rule.specs.Parts.{Sits, ObjectPart}
-use Rattle.st_rule.specs.Rule.{Told, Moment, HoldsAt, world_of}
-use Rattle.st_rule.proofs.DrawEvents.{cell_stays, kind_stays, cell_word, change_leaves, new_leaves}
+use Rattle.st_rule.specs.Rule.{Told, Moment, HoldsAt}
+use Rattle.st_rule.proofs.DrawEvents.{cell_stays, kind_stays, cell_word}
 use Rattle.st_rule.proofs.FlightLemmas.{field_is, objects_same, objects_store, objects_cas, objects_new}
-use Rattle.st_rule.proofs.ObjectLemmas.{LeavesElsewhere}
 use Rattle.st_rule.proofs.ReachLemmas.{world, sound, seen_extends, next_is, next_absent}
 
 module _ (told : Told) (id : ℕ) (v : MutView) (m : Moment) (words : List ℕ) (views : List View) (h : HoldsAt told m words views) (sits : Sits views id (Mut v))
@@ -143,3 +140,12 @@ active_same v x shape sizes w (Cas t obj f expect value true) s = refl
 active_same v x shape sizes w (Cas t obj f expect value false) s = refl
 active_same v x shape sizes w (Launch t site number args) s = absurd s
 active_same v x shape sizes w (Retire t number) s = absurd s
+
+pub launched_same : (v : MutView) (x : Held) (shape : ShapeLists) (sizes : Sizes) (w : World) (e : Event) → Suits v x e → (next shape sizes w e).launched ≡ w.launched
+launched_same v x shape sizes w (New t obj class) s = refl
+launched_same v x shape sizes w (Load t obj f value) s = refl
+launched_same v x shape sizes w (Store t obj f value) s = refl
+launched_same v x shape sizes w (Cas t obj f expect value true) s = refl
+launched_same v x shape sizes w (Cas t obj f expect value false) s = refl
+launched_same v x shape sizes w (Launch t site number args) s = absurd s
+launched_same v x shape sizes w (Retire t number) s = absurd s

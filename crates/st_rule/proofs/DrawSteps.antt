@@ -1,20 +1,19 @@
 -- The draw of an event keeps the rule, whatever the table is when the clock changes.
-use Rattle.std.proofs.Common.{◌≡◌, ◌≢◌, ℕ, zero, suc, ◌+◌, ◌*◌, ◌%◌, ◌^◌, ◌<◌, ◌≤◌, ◌⊎◌, ◌==◌, Bool, true, false, if◌then◌else◌, List}
-use Rattle.std.proofs.Common.{[], ◌∷◌, ◌++◌, length, filter, get_or, set}
-use Rattle.std.proofs.Common.{Option, Some, None, sym, refl, ap, subst, ◌∙◌, arith, ⊎_elim, inl, inr, mul-le-mul, length-append}
+use Rattle.std.proofs.Common.{◌≡◌, ◌≢◌, ℕ, suc, ◌+◌, ◌%◌, ◌^◌, ◌<◌, ◌≤◌, Bool, true, false, if◌then◌else◌, List}
+use Rattle.std.proofs.Common.{[], ◌∷◌, ◌++◌, length, get_or, set}
+use Rattle.std.proofs.Common.{Option, Some, sym, refl, ap, subst, ◌∙◌, arith, ⊎_elim, inl, inr, length-append}
 use Rattle.std.specs.Prelude.{All}
-use Rattle.std.proofs.lemmas.List.Elements.{filter-append}
-use mathlib.Core.Logic.{◌↔◌, dite}
+use mathlib.Core.Logic.{dite}
 use mathlib.Core.List.{IsPrefix}
 use mathlib.Core.Option.{some}
 use native.Mathlib.Decide.{ℕ_discrete}
-use Rattle.atomic_table.specs.Table.{State, keeps, Allows}
-use Rattle.st_layout.specs.Names.{WordName, ClosingWord, ClockWord, EpochWord, AvailableWord, FlagWord, LaneWord, ClassWord, HeaderWord, ForwardWord, FieldWord}
+use Rattle.atomic_table.specs.Table.{keeps, Allows}
+use Rattle.st_layout.specs.Names.{ClosingWord, ClockWord, EpochWord, AvailableWord, FlagWord, LaneWord, ClassWord, HeaderWord, ForwardWord, FieldWord}
 use Rattle.st_layout.specs.Layout.{word_of}
 use Rattle.st_layout.specs.Packed.{packed, high_half, low_half}
 use Rattle.st_events.specs.declared.events.Event.{Event}
 use Rattle.st_events.specs.declared.events.Event.TheVariants.{New, Load, Store, Cas, Launch, Retire}
-use Rattle.st_events.specs.History.{is_own, is_launch, epoch_of}
+use Rattle.st_events.specs.History.{is_own}
 use Rattle.st_events.specs.Legal.{IsLegal}
 use Rattle.st_events.specs.World.{World, world_after, next, at, is_among}
 use Rattle.st_events.proofs.LegalLemmas.{one_more_is_legal}
@@ -32,22 +31,24 @@ use Rattle.st_rule.specs.Draws.{MayDraw, drew, drawn_hand, left_in_flight}
 use Rattle.st_rule.specs.Entries.{own_entries, charge_of, charge_of_all, charge_below}
 use Rattle.st_rule.specs.Board.{stays_loaded}
 use Rattle.st_rule.specs.Parts.{Sits, JournalPart, GatePart, BoardPart, LoadedPart, HasLoaded, ObjectPart, HandPart, IsJoined, Seating}
-use Rattle.st_rule.specs.Plays.{Seated, Learns, Draws}
-use Rattle.st_rule.specs.Rule.{Told, Moment, HoldsAt, IsSoundTable, world_of, flights_of, LanesAt, CopiesAt}
+use Rattle.st_rule.specs.Plays.{Seated, Draws}
+use Rattle.st_rule.specs.Rule.{Told, Moment, HoldsAt, IsSoundTable, world_of, flights_of, LanesAt, CopiesAt, ReadsAt}
 use Rattle.st_rule.specs.Needs.{needing_lanes, takes_copy, is_change, is_any}
 use Rattle.st_rule.proofs.NeedLemmas.{some_of, needs}
 use Rattle.st_rule.proofs.DrawVersions.{VersionsAfter, after_event, versions_drawn, copies_of}
 use Rattle.st_rule.proofs.ReachLemmas.{sound}
 use Rattle.st_rule.specs.Views.{seen_by, is_closer}
 use Rattle.st_rule.proofs.DrawEvents.{suits_own, suits_other}
-use Rattle.st_rule.proofs.DrawLegal.{legal_next, objects_next, epoch_same, active_same, mutator}
-use Rattle.st_rule.proofs.EntryLemmas.{entry, own_more, own_other, charge_more, below_more, below_most}
+use Rattle.st_rule.proofs.DrawLegal.{legal_next, objects_next, epoch_same, active_same, launched_same, mutator}
+use Rattle.st_rule.proofs.ReadLemmas.{lanes_stay, reading_on}
+use Rattle.st_rule.specs.Reading.{IsReading}
+use Rattle.st_rule.proofs.EntryLemmas.{entry, own_more, own_other, charge_more, below_more}
 use Rattle.st_rule.proofs.GateSteps.{learns, found_is, store_fits, journal_legal}
 use Rattle.st_rule.proofs.LoadedLemmas.{written_else}
 use Rattle.st_rule.proofs.PackedLemmas.{high_packed, low_packed, clock_sum}
 use Rattle.st_rule.proofs.PrefixLemmas.{prefix_self, prefix_trans}
 use Rattle.st_rule.proofs.ReachLemmas.{journal_short}
-use Rattle.st_rule.proofs.TurnLemmas.{StaysPut, joined_still, still_gone, seating_after}
+use Rattle.st_rule.proofs.TurnLemmas.{still_gone, seating_after}
 use Rattle.st_rule.proofs.ViewLemmas.{set_there, sits_once, mut_is, gone_is_no_mutator, all_set, all_mut_set, at_here, at_else}
 
 one_longer : {A : Type 0} (xs : List A) (x : A) → length (xs ++ x ∷ []) ≡ length xs + 1
@@ -329,6 +330,13 @@ module _ (told : Told) (id : ℕ) (v : MutView) (m : Moment) (words : List ℕ) 
         (sym world_is) (objects_next told id v m words views h sits event copy may (low_half word) event may.suits);
     lane_part = subst (λ x. LanesAt told.terms.sizes x board' (flights_of drawn.grip drawn.holder)) (sym world_is) versions.0;
     copy_part = subst (λ x. CopiesAt told.terms.sizes x board' m.since (flights_of drawn.grip drawn.holder)) (sym world_is) versions.1;
+    read_part = subst (λ x. ReadsAt told.terms x board' views') (sym world_is) (record {
+      reads = lanes_stay views id w (λ j u. IsReading told.terms after (λ l. board' (LaneWord l)) (λ o l. board' (ForwardWord o l)) u)
+          (λ j u there. reading_on told.terms before after (λ l. m.board (LaneWord l)) (λ l. board' (LaneWord l))
+          (λ o l. m.board (ForwardWord o l)) (λ o l. board' (ForwardWord o l)) u
+          (active_same v may.hand told.terms.shape told.terms.sizes before event may.suits) (launched_same v may.hand told.terms.shape told.terms.sizes before event may.suits)
+          (λ l. refl) (λ o l epoch. refl) (h.read_part.reads j u there));
+    });
     hand_part = hands_after;
     seating = seating_next;
   }

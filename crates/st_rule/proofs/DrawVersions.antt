@@ -1,14 +1,14 @@
 -- What a draw makes of the parts on old versions. The ticket and the index are drawn at one step, so that which copy keeps a version, and which versions
 -- are lost, is by the order of the journal.
-use Rattle.std.proofs.Common.{◌≡◌, ◌≢◌, ℕ, zero, suc, ◌+◌, ◌<◌, ◌≤◌, ◌⊎◌, Bool, true, false, if◌then◌else◌, List, []}
-use Rattle.std.proofs.Common.{◌∷◌, length, Option, Some, None, sym, refl, ap, subst, ◌∙◌, arith, ⊎_elim, inl, inr}
+use Rattle.std.proofs.Common.{◌≡◌, ℕ, suc, ◌+◌, ◌<◌, ◌≤◌, ◌⊎◌, Bool, true, false, if◌then◌else◌, List, []}
+use Rattle.std.proofs.Common.{◌∷◌, length, Option, Some, None, sym, refl, ap, subst, ◌∙◌, arith, inl, inr}
 use Rattle.std.specs.Prelude.{IsSome}
 use Rattle.st_layout.specs.Names.{ClockWord, AvailableWord, LaneWord, FieldWord, ForwardWord, CopyWord, FreeWord}
-use Rattle.st_layout.specs.Packed.{high_half, low_half}
+use Rattle.st_layout.specs.Packed.{low_half}
 use Rattle.st_events.specs.declared.events.Event.{Event}
 use Rattle.st_events.specs.declared.events.Event.TheVariants.{New, Load, Store, Cas, Launch, Retire}
-use Rattle.st_events.specs.Heap.{Object, word_at}
-use Rattle.st_events.specs.World.{World, Launched, next, changed, at, is_among, is_lost}
+use Rattle.st_events.specs.Heap.{Object}
+use Rattle.st_events.specs.World.{World, Launched, next, changed, at, is_among}
 use Rattle.st_rule.specs.declared.views.Flight.{Flight}
 use Rattle.st_rule.specs.declared.views.Held.{Held}
 use Rattle.st_rule.specs.declared.views.MutView.{MutView}
@@ -20,11 +20,11 @@ use Rattle.st_rule.specs.Holding.{Holds, holding, flight_of, word_or_zero}
 use Rattle.st_rule.specs.Needs.{KnowsNeed, needing_lanes, is_change, is_any, takes_copy, index_for}
 use Rattle.st_rule.specs.Parts.{Sits}
 use Rattle.st_rule.specs.Rule.{Told, Moment, HoldsAt, world_of, flights_of, LanesAt, CopiesAt}
-use Rattle.st_rule.specs.Versions.{IsAwaiting, IsOwed, LanePart, CopyPart}
+use Rattle.st_rule.specs.Versions.{IsOwed, LanePart, CopyPart}
 use Rattle.st_rule.proofs.CopyLemmas.{copies_drawn}
 use Rattle.st_rule.proofs.HoldLemmas.{holds_one}
-use Rattle.st_rule.proofs.LaneLemmas.{GoesOn, lanes_drawn, one_flight, no_flight}
-use Rattle.st_rule.proofs.NeedLemmas.{any_of, needs, needed, same_need, check_needs}
+use Rattle.st_rule.proofs.LaneLemmas.{GoesOn, lanes_drawn, one_flight}
+use Rattle.st_rule.proofs.NeedLemmas.{needs, needed, same_need, check_needs}
 use Rattle.st_rule.proofs.ObjectLemmas.{flights_taken}
 use Rattle.st_rule.proofs.PoolLemmas.{lost_stays, lost_now, kept_after}
 use Rattle.st_rule.proofs.ReachLemmas.{sound, next_is, next_absent}

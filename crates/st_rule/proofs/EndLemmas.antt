@@ -1,7 +1,7 @@
 -- At the close the main thread's seat has seen the whole journal.
-use Rattle.std.proofs.Common.{◌≡◌, ◌≢◌, ℕ, zero, suc, ◌+◌, ◌-◌, ◌^◌, ◌<◌, ◌≤◌, ◌==◌, ◌||◌, Bool, true, false, List, [], ◌∷◌, length, map}
+use Rattle.std.proofs.Common.{◌≡◌, ℕ, zero, suc, ◌<◌, ◌==◌, ◌||◌, Bool, true, false, List, [], ◌∷◌, length, map}
 use Rattle.std.proofs.Common.{get_or, sym, refl, ap, subst, ◌∙◌, arith, ⊎_elim, inl, inr}
-use Rattle.std.specs.Prelude.{All, ◌⊎◌}
+use Rattle.std.specs.Prelude.{◌⊎◌}
 use Rattle.std.proofs.lemmas.Bool.Decides.{nat_tests}
 use mathlib.Core.Logic.{dite}
 use native.Mathlib.Decide.{ℕ_discrete}
@@ -20,7 +20,7 @@ use Rattle.st_rule.specs.declared.views.View.TheVariants.{Mut, Gone}
 use Rattle.st_rule.specs.Board.{plan_of}
 use Rattle.st_rule.specs.Ends.{IsHistoryOf, HasLogs}
 use Rattle.st_rule.specs.Entries.{own_entries}
-use Rattle.st_rule.specs.Parts.{Sits, IsJoined}
+use Rattle.st_rule.specs.Parts.{Sits}
 use Rattle.st_rule.specs.Rule.{Told, Moment, HoldsAt, IsSoundTable}
 use Rattle.st_rule.specs.Seats.{HasJoinedAll}
 use Rattle.st_rule.proofs.ViewLemmas.{sits_once, mut_is, gone_is_no_mutator}

@@ -1,13 +1,12 @@
 -- What a draw makes of the object part: the holder has a change or a New in flight, or nothing.
-use Rattle.std.proofs.Common.{◌≡◌, ◌≢◌, ℕ, suc, ◌+◌, ◌<◌, ◌≤◌, ◌⊎◌, Bool, true, false, if◌then◌else◌, List, [], ◌∷◌, Option, Some, None, sym}
-use Rattle.std.proofs.Common.{refl, ap, subst, ◌∙◌, arith, inl, inr}
+use Rattle.std.proofs.Common.{◌≡◌, ◌≢◌, ℕ, suc, Bool, true, false, List, Option, Some, None, sym}
+use Rattle.std.proofs.Common.{refl, ap, subst, ◌∙◌, inl, inr}
 use Rattle.std.specs.Prelude.{IsSome, unwrap_or, ◌==◌}
 use Rattle.std.specs.Option.{option_map}
 use Rattle.st_layout.specs.Packed.{packed}
-use Rattle.st_events.specs.declared.events.Event.{Event}
-use Rattle.st_events.specs.declared.events.Event.TheVariants.{New, Load, Store, Cas, Launch, Retire}
+use Rattle.st_events.specs.declared.events.Event.TheVariants.{New, Store, Cas}
 use Rattle.st_events.specs.declared.limits.Sizes.{Sizes}
-use Rattle.st_events.specs.Heap.{Heap, Object, word_at, class_at, with_object, fresh}
+use Rattle.st_events.specs.Heap.{Object, word_at, fresh}
 use Rattle.st_events.specs.Shape.{ShapeLists}
 use Rattle.st_events.specs.World.{World, next, changed, at}
 use Rattle.st_events.proofs.SoundHeap.{object_put_here, word_set_keeps_class}
@@ -16,13 +15,13 @@ use Rattle.st_rule.specs.declared.views.Held.{Held}
 use Rattle.st_rule.specs.declared.views.Phase.{Phase}
 use Rattle.st_rule.specs.declared.views.Phase.TheVariants.{Inside}
 use Rattle.st_rule.specs.Draws.{left_in_flight, fresh_change, fresh_new}
-use Rattle.st_rule.specs.Holding.{Holds, IsNext, HasLanded, holding, flight_of, shown_stamp, shown_class, shown_field, sets_field, makes, field_loaded}
+use Rattle.st_rule.specs.Holding.{HasLanded, holding, flight_of, shown_stamp, shown_class, shown_field, sets_field, makes, field_loaded}
 use Rattle.st_rule.specs.Holding.{word_or_zero, class_or_zero}
-use Rattle.st_rule.specs.Parts.{ObjectPart, IsFlying}
+use Rattle.st_rule.specs.Parts.{ObjectPart}
 use Rattle.st_rule.proofs.DrawEvents.{change_leaves, change_lands, change_there, change_shows, new_leaves, new_words}
 use Rattle.st_rule.proofs.HoldLemmas.{holds_one, some_held, names, held_is, was_it, keeps_handles}
 use Rattle.st_rule.proofs.ObjectLemmas.{LeavesElsewhere, objects_after}
-use Rattle.st_rule.proofs.ViewLemmas.{at_here, at_else}
+use Rattle.st_rule.proofs.ViewLemmas.{at_here}
 
 module _ (sizes : Sizes) (world : World) (phase phase' : ℕ → Phase) (grip : ℕ → Option Held) (holder header class : ℕ → ℕ) (field forward : ℕ → ℕ → ℕ)
     (part : ObjectPart sizes world phase grip holder header class field forward) (n : ℕ) (others : (k : ℕ) → k ≢ n → phase' k ≡ phase k)

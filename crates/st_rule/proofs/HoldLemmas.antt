@@ -1,10 +1,10 @@
 -- What lock, unlock, field load, field store and class store make of the object part.
-use Rattle.std.proofs.Common.{◌≡◌, ◌≢◌, ℕ, zero, suc, ◌+◌, ◌<◌, ◌≤◌, ◌⊎◌, ◌==◌, ◌&&◌, not, Bool, true, false, if◌then◌else◌, List, []}
+use Rattle.std.proofs.Common.{◌≡◌, ◌≢◌, ℕ, suc, ◌⊎◌, ◌==◌, ◌&&◌, not, Bool, true, false, if◌then◌else◌, []}
 use Rattle.std.proofs.Common.{◌∷◌, Option, Some, None}
-use Rattle.std.proofs.Common.{sym, refl, ap, subst, ◌∙◌, arith, ⊎_elim, inl, inr, eq-eqb, ne_eqb}
+use Rattle.std.proofs.Common.{sym, refl, ap, subst, ◌∙◌, arith, inl, inr, eq-eqb, ne_eqb}
 use Rattle.std.specs.Prelude.{IsSome, unwrap_or}
 use Rattle.std.proofs.lemmas.Bool.Decides.{nat_tests}
-use mathlib.Core.Logic.{◌↔◌, dite}
+use mathlib.Core.Logic.{dite}
 use native.Mathlib.Decide.{ℕ_discrete}
 use Rattle.st_layout.specs.Packed.{packed}
 use Rattle.st_events.specs.declared.events.Event.{Event}
@@ -15,14 +15,12 @@ use Rattle.std.specs.Option.{option_map}
 use Rattle.st_events.specs.World.{World, at}
 use Rattle.st_rule.specs.declared.views.Flight.{Flight}
 use Rattle.st_rule.specs.declared.views.Held.{Held}
-use Rattle.st_rule.specs.declared.views.LoadedField.{LoadedField}
 use Rattle.st_rule.specs.declared.views.Phase.{Phase}
 use Rattle.st_rule.specs.declared.views.Phase.TheVariants.{Inside}
 use Rattle.st_rule.specs.Holding.{Holds, IsNext, HasLanded, holding, flight_of, shown_stamp, shown_class, shown_field, sets_field, makes, field_loaded, IsSetting, IsMaking}
 use Rattle.st_rule.specs.Holding.{word_or_zero, class_or_zero}
 use Rattle.st_rule.specs.Parts.{ObjectPart, IsFlying}
-use Rattle.st_rule.specs.Turns.{landed}
-use Rattle.st_rule.proofs.ObjectLemmas.{LeavesElsewhere, leaves_all, Handles, objects_after}
+use Rattle.st_rule.proofs.ObjectLemmas.{leaves_all, Handles, objects_after}
 use Rattle.st_rule.proofs.ViewLemmas.{at_here, at_else}
 
 -- a hand holds one object

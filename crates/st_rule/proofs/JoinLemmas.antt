@@ -7,16 +7,18 @@ use mathlib.Core.List.{IsPrefix}
 use native.Mathlib.Decide.{ℕ_discrete}
 use Rattle.atomic_table.specs.Table.{Joins}
 use Rattle.atomic_table.proofs.Lists.{at_set, set_else}
-use Rattle.st_layout.specs.Names.{ClosingWord, ClockWord, FlagWord}
+use Rattle.st_layout.specs.Names.{ClosingWord, ClockWord, FlagWord, LaneWord, ForwardWord}
 use Rattle.st_events.specs.declared.events.Event.{Event}
 use Rattle.st_events.specs.World.{is_among}
 use Rattle.st_rule.specs.declared.views.JoinedView.{JoinedView}
 use Rattle.st_rule.specs.declared.views.Phase.TheVariants.{Outside, Inside, Alone}
 use Rattle.st_rule.specs.declared.views.MutView.{MutView}
 use Rattle.st_rule.specs.declared.views.View.{View}
-use Rattle.st_rule.specs.declared.views.View.TheVariants.{Mut, Gone}
+use Rattle.st_rule.specs.declared.views.View.TheVariants.{Mut, Lane, Gone}
 use Rattle.st_rule.specs.Parts.{Sits, JournalPart, GatePart, LoadedPart, HasLoaded, HandPart, IsJoined, Seating}
-use Rattle.st_rule.specs.Rule.{Told, Moment, HoldsAt, IsSoundTable}
+use Rattle.st_rule.specs.Rule.{Told, Moment, HoldsAt, IsSoundTable, world_of}
+use Rattle.st_rule.specs.Reading.{IsReading}
+use Rattle.st_rule.proofs.ReadLemmas.{lanes_stay, gone_is_no_lane}
 use Rattle.st_rule.specs.Turns.{joined_with}
 use Rattle.st_rule.specs.Views.{seen_by, is_closer}
 use Rattle.st_rule.proofs.PrefixLemmas.{prefix_empty, prefix_self, prefix_trans, IsLonger, longer_is, longer_whole}
@@ -183,6 +185,12 @@ module _ (told : Told) (id : ℕ) (v : MutView) (other : ℕ) (u : MutView) (m :
     object_part = h.object_part;
     lane_part = h.lane_part;
     copy_part = h.copy_part;
+    read_part = record {
+      reads = λ j x there. ⊎_elim
+          (λ gone. absurd (gone_is_no_lane x gone.1))
+          (λ old. lanes_stay views id b (λ j u. IsReading told.terms (world_of told.terms m) (λ l. m.board (LaneWord l)) (λ o l. m.board (ForwardWord o l)) u) h.read_part.reads j x old.1)
+          (at_set (set views id (Mut b)) other j Gone (Lane x) there);
+    };
     hand_part = hands_joined;
     seating = seating_joined;
   }

@@ -1,5 +1,5 @@
 -- What a holder's step on its object makes of the part on lanes.
-use Rattle.std.proofs.Common.{◌≡◌, ◌≢◌, ℕ, zero, suc, ◌+◌, ◌^◌, ◌<◌, ◌≤◌, ◌⊎◌, ◌==◌, Bool, true, false, List, []}
+use Rattle.std.proofs.Common.{◌≡◌, ◌≢◌, ℕ, zero, suc, ◌+◌, ◌^◌, ◌<◌, ◌≤◌, ◌⊎◌, true, false, []}
 use Rattle.std.proofs.Common.{Option, Some, None, sym, refl, ap, subst, ◌∙◌, arith, ⊎_elim, inl, inr}
 use Rattle.std.specs.Prelude.{IsSome}
 use mathlib.Core.Logic.{dite}
@@ -119,8 +119,13 @@ module _ (sizes : Sizes) (world : World) (lane : ℕ → ℕ) (available : ℕ) 
           (o l : ℕ) (past : Heap) → l < sizes.lanes → is_among world.active (lane l) ≡ true → high_half (forward o l) ≡ lane l
           → IsForwarded sizes world (low_half (forward o l)) o (lane l) past copy → IsForwarded sizes world (low_half (forward o l)) o (lane l) past copy'
       forwarded_still o l past within active epoch old = ⊎_elim
-          (λ kept. inl (kept.0, kept.1, kept.2, same_copy past o kept.0
-          (unnamed o l kept.0 (record { within = within; active = active; epoch = epoch; low = kept.1; kept = λ lost. fits kept.0 kept.2 (sym kept.1 ∙ lost) })) kept.3))
+          (λ kept. inl (
+            kept.0,
+            kept.1,
+            kept.2,
+            same_copy past o kept.0
+                (unnamed o l kept.0 (record { within = within; active = active; epoch = epoch; low = kept.1; kept = λ lost. fits kept.0 kept.2 (sym kept.1 ∙ lost) })) kept.3,
+          ))
           (λ lost. inr lost)
           old
 

@@ -5,6 +5,7 @@ pub mod PrefixLemmas
 pub mod ViewLemmas
 pub mod ObjectLemmas
 pub mod HoldLemmas
+pub mod ReadLemmas
 pub mod TurnLemmas
 pub mod LoadedLemmas
 pub mod GateLemmas
@@ -29,3 +30,5 @@ pub mod NeedLemmas
 pub mod PoolLemmas
 pub mod DrawVersions
 pub mod BarrierSteps
+pub mod LaneSteps
+pub mod LaneSeatLemmas

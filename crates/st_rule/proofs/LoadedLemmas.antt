@@ -1,8 +1,8 @@
 -- What views have loaded of the board, and which stores leave it.
-use Rattle.std.proofs.Common.{◌≡◌, ◌≢◌, ℕ, Bool, true, false, if◌then◌else◌, Some, None, sym, refl, ap, subst, ◌∙◌}
+use Rattle.std.proofs.Common.{◌≡◌, ◌≢◌, ℕ, Bool, true, false, if◌then◌else◌, Some, None, sym, refl, ap, ◌∙◌}
 use Rattle.std.proofs.lemmas.Bool.{both_ways}
 use Rattle.st_layout.specs.declared.plans.Plan.{Plan}
-use Rattle.st_layout.specs.Names.{WordName, ClosingWord, FlagWord, ClassWord, HeaderWord, FieldWord, HasWord}
+use Rattle.st_layout.specs.Names.{WordName, ClosingWord, FlagWord, ClassWord, HeaderWord, FieldWord}
 use Rattle.st_layout.specs.Layout.{word_of}
 use Rattle.st_rule.specs.declared.views.MutView.{MutView}
 use Rattle.st_rule.specs.declared.views.Phase.{Phase}

@@ -1,6 +1,6 @@
 -- A step on one object: the hand of one number, the header, class and fields of one object, and what the events say of it. This one lemma serves
 -- each kind of step on objects.
-use Rattle.std.proofs.Common.{◌≡◌, ◌≢◌, ℕ, zero, suc, ◌+◌, ◌<◌, ◌≤◌, ◌⊎◌, Bool, true, false, List, [], ◌∷◌, Option, Some, None, sym, refl, ap, subst}
+use Rattle.std.proofs.Common.{◌≡◌, ◌≢◌, ℕ, zero, suc, ◌<◌, ◌⊎◌, Option, Some, None, sym, refl, ap, subst}
 use Rattle.std.proofs.Common.{◌∙◌, arith, ⊎_elim, inl, inr}
 use Rattle.std.specs.Prelude.{IsSome}
 use mathlib.Core.Logic.{◌↔◌, dite}
@@ -9,7 +9,7 @@ use Rattle.st_layout.specs.Packed.{packed}
 use Rattle.st_events.specs.declared.events.Event.{Event}
 use Rattle.st_events.specs.declared.events.Event.TheVariants.{New, Load, Store, Cas, Launch, Retire}
 use Rattle.st_events.specs.declared.limits.Sizes.{Sizes}
-use Rattle.st_events.specs.Heap.{Heap, Object, word_of, word_at, class_at}
+use Rattle.st_events.specs.Heap.{Heap, Object, word_of, class_at}
 use Rattle.st_events.specs.Legal.{next_object}
 use Rattle.st_events.specs.World.{World, at}
 use Rattle.st_rule.specs.declared.views.Flight.{Flight}

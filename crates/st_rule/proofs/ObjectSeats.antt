@@ -1,5 +1,5 @@
 -- From what a step on an object tells its seat to what contracts say of it, and what the seat's struct keeps.
-use Rattle.std.proofs.Common.{◌≡◌, ◌≢◌, ℕ, suc, ◌+◌, ◌-◌, ◌*◌, ◌/◌, ◌<◌, ◌≤◌, ◌==◌, nat_lt, Bool, true, false, if◌then◌else◌, List, []}
+use Rattle.std.proofs.Common.{◌≡◌, ℕ, ◌+◌, ◌-◌, ◌<◌, ◌≤◌, ◌==◌, nat_lt, Bool, true, false, if◌then◌else◌, List, []}
 use Rattle.std.proofs.Common.{◌∷◌, ◌++◌, length, filter}
 use Rattle.std.proofs.Common.{Option, Some, None, sym, refl, ap, subst, ◌∙◌, arith, length-append}
 use Rattle.std.proofs.lemmas.Bool.Decides.{nat_tests}
@@ -7,23 +7,22 @@ use Rattle.std.proofs.lemmas.List.Elements.{filter-append}
 use mathlib.Core.List.{IsPrefix}
 use Rattle.atomic_table.specs.Table.{State, Allows}
 use Rattle.st_layout.specs.declared.plans.Plan.{Plan}
-use Rattle.st_layout.specs.Names.{EpochWord, HeaderWord, FieldWord, ForwardWord, cells_of}
-use Rattle.st_layout.specs.Layout.{word_of, first_cell}
+use Rattle.st_layout.specs.Names.{HeaderWord, FieldWord, ForwardWord, cells_of}
+use Rattle.st_layout.specs.Layout.{word_of}
 use Rattle.st_layout.specs.Packed.{packed, high_half}
 use Rattle.st_events.specs.declared.events.Event.{Event}
 use Rattle.st_events.specs.declared.events.Event.TheVariants.{New, Load, Store, Cas, Launch, Retire}
-use Rattle.st_events.specs.History.{is_own, is_new}
+use Rattle.st_events.specs.History.{is_new}
 use Rattle.st_events.specs.Legal.{IsLegal}
 use Rattle.st_rule.specs.declared.views.Entry.{Entry}
-use Rattle.st_rule.specs.declared.views.Flight.{Flight}
 use Rattle.st_rule.specs.declared.views.Held.{Held}
 use Rattle.st_rule.specs.declared.views.MutView.{MutView}
 use Rattle.st_rule.specs.declared.views.View.{View}
 use Rattle.st_rule.specs.declared.views.View.TheVariants.{Mut}
 use Rattle.st_rule.specs.Board.{plan_of}
-use Rattle.st_rule.specs.Draws.{MayDraw, MayLock, HasInHand, Suits, IsNextOf, drew, drawn_hand, left_in_flight}
-use Rattle.st_rule.specs.Entries.{own_entries, charge_of, charge_of_all, news_of, news_among, charge_spent, objects_made, whole_charge, whole_region}
-use Rattle.st_rule.specs.Plays.{Seated, Becomes, Learns, Finds, FindsAndLearns, LoadsBoard, FindsBoard, IsBoardWord, Locks, LocksWhere, FindsField, StoresForward, FindsLock, Draws, FindsAndDraws}
+use Rattle.st_rule.specs.Draws.{MayDraw, HasInHand, Suits, IsNextOf, drew, drawn_hand, left_in_flight}
+use Rattle.st_rule.specs.Entries.{own_entries, charge_of, news_of, news_among, charge_spent, objects_made, whole_charge, whole_region}
+use Rattle.st_rule.specs.Plays.{Seated, Becomes, Learns, LoadsBoard, FindsBoard, IsBoardWord, Locks, LocksWhere, FindsField, StoresForward, FindsLock, Draws, FindsAndDraws}
 use Rattle.st_rule.specs.SeatValue.{IsFairView, KeepsSeat}
 use Rattle.st_rule.specs.Turns.{looked_last, board_loaded, locked, locked_at, unlocked, field_found, word_written, copy_stored, forwarded, with_field, with_written, with_built}
 use Rattle.st_rule.specs.Turns.{with_forward, object_of_header, field_of_word, lane_of_word}
@@ -34,7 +33,7 @@ use Rattle.st_rule.specs.Needs.{HasFlight, needing_lanes}
 use Rattle.st_events.specs.Heap.{Heap}
 use Rattle.st_rule.proofs.DrawEvents.{suits_own}
 use Rattle.st_rule.proofs.EntryLemmas.{entry, own_more, charge_more}
-use Rattle.st_rule.proofs.SeatLemmas.{Steady, fair_after, held_same, seat_kept, kept_with, changed_at, learned_at}
+use Rattle.st_rule.proofs.SeatLemmas.{Steady, fair_after, held_same, seat_kept, kept_with}
 use Rattle.st_rule.proofs.ViewLemmas.{mut_is}
 
 -- ---- which word it is

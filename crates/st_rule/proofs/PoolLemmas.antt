@@ -1,9 +1,9 @@
 -- What a change makes of the rows kept and the versions lost, by the clock and the length of the free list.
-use Rattle.std.proofs.Common.{◌≡◌, ◌≢◌, ℕ, zero, suc, ◌+◌, ◌<◌, ◌≤◌, ◌⊎◌, ◌==◌, nat_lt, not, Bool, true, false, if◌then◌else◌, List, []}
+use Rattle.std.proofs.Common.{◌≡◌, ℕ, ◌+◌, ◌<◌, ◌≤◌, ◌⊎◌, nat_lt, not, Bool, true, false, if◌then◌else◌, List, []}
 use Rattle.std.proofs.Common.{◌∷◌, ◌++◌, length, map, sym, refl, ap, subst, ◌∙◌, arith, ⊎_elim, inl, inr, length-append, append-nil}
 use Rattle.std.proofs.lemmas.Bool.Decides.{nat_tests}
 use Rattle.st_events.specs.declared.limits.Sizes.{Sizes}
-use Rattle.st_events.specs.World.{World, Row, Pair, is_among, is_lost, is_full, needing_in, row_if_needed, kept_at_change, lost_at_change}
+use Rattle.st_events.specs.World.{World, is_among, is_lost, is_full, needing_in, row_if_needed, kept_at_change, lost_at_change}
 use Rattle.st_events.proofs.KeptLemmas.{lost_in_front, lost_in_back, pairs_are_lost}
 use Rattle.st_rule.specs.Needs.{is_any}
 

@@ -1,26 +1,20 @@
 -- From what a seat has seen of the heap to what the heap is: objects that it may lock, and its next one.
-use Rattle.std.proofs.Common.{◌≡◌, ◌≢◌, ℕ, zero, suc, ◌+◌, ◌*◌, ◌^◌, ◌<◌, ◌≤◌, ◌⊎◌, List, [], ◌++◌, Option, Some, None, sym, refl, ap, subst}
+use Rattle.std.proofs.Common.{◌≡◌, ℕ, zero, suc, ◌+◌, ◌*◌, ◌^◌, ◌<◌, ◌≤◌, ◌⊎◌, List, [], ◌++◌, Option, Some, None, sym, refl, ap, subst}
 use Rattle.std.proofs.Common.{◌∙◌, arith, ⊎_elim, inl, inr, suc-mul, mul-le-mul, length, filter, ◌∷◌, Bool, true, false, if◌then◌else◌}
 use Rattle.std.proofs.Math.Nat.{mul-le-mul_right}
 use Rattle.std.specs.Prelude.{IsSome}
-use mathlib.Core.List.{IsPrefix}
 use Rattle.st_layout.specs.Names.{EpochWord, HeaderWord, cells_of}
 use Rattle.st_events.specs.History.{is_launch}
 use Rattle.st_layout.specs.Packed.{packed}
-use Rattle.st_layout.specs.declared.words.TheConstants.{FIXED_CELLS}
-use Rattle.st_events.specs.declared.events.Event.{Event}
-use Rattle.st_events.specs.declared.heaps.TheConstants.{FIRST_OF_REGIONS, SHARED_OBJECT}
+use Rattle.st_events.specs.declared.heaps.TheConstants.{FIRST_OF_REGIONS}
 use Rattle.st_events.specs.declared.limits.Sizes.{Sizes}
 use Rattle.st_events.specs.Heap.{Heap, Object}
 use Rattle.st_events.specs.Legal.{IsLegal, next_object}
-use Rattle.st_events.specs.Shape.{ShapeLists, IsWithinLimits}
-use Rattle.st_events.specs.Sizes.{AreWithinLimits}
 use Rattle.st_events.specs.Sound.{IsSoundWorld, AreRegions, IsMade, Extends}
 use Rattle.st_events.specs.World.{World, world_after}
 use Rattle.st_events.proofs.CountLemmas.{made_counts_news, epoch_counts_launches}
 use Rattle.st_events.proofs.ExtendsLemmas.{heap_extends}
 use Rattle.st_events.proofs.SoundLemmas.{legal_is_sound}
-use Rattle.st_rule.specs.declared.views.Held.{Held}
 use Rattle.st_rule.specs.declared.views.MutView.{MutView}
 use Rattle.st_rule.specs.declared.views.Phase.TheVariants.{Outside, Inside}
 use Rattle.st_rule.specs.declared.views.Terms.{Terms}
@@ -28,7 +22,7 @@ use Rattle.st_rule.specs.declared.views.View.{View}
 use Rattle.st_rule.specs.declared.views.View.TheVariants.{Mut}
 use Rattle.st_rule.specs.Board.{plan_of}
 use Rattle.st_rule.specs.Draws.{MayLock, IsNextOf, heap_seen}
-use Rattle.st_rule.specs.Entries.{own_entries, news_among, objects_made, next_of}
+use Rattle.st_rule.specs.Entries.{news_among, objects_made}
 use Rattle.st_rule.specs.Holding.{Holds, IsNext, holding, shown_stamp}
 use Rattle.st_rule.specs.Parts.{Sits}
 use Rattle.st_rule.specs.Rule.{Told, Moment, HoldsAt, world_of}

@@ -9,15 +9,17 @@ use native.Mathlib.Decide.{ℕ_discrete}
 use lib.ListN.{get_elem?}
 use Rattle.atomic_table.specs.Table.{Splits}
 use Rattle.atomic_table.proofs.Lists.{set_else, at_longer}
-use Rattle.st_layout.specs.Names.{ClosingWord, ClockWord, FlagWord}
+use Rattle.st_layout.specs.Names.{ClosingWord, ClockWord, FlagWord, LaneWord, ForwardWord}
 use Rattle.st_events.specs.World.{at, is_among}
 use Rattle.st_rule.specs.declared.views.Phase.TheVariants.{Outside, Inside, Alone}
 use Rattle.st_rule.specs.declared.views.Terms.{Terms}
 use Rattle.st_rule.specs.declared.views.MutView.{MutView}
 use Rattle.st_rule.specs.declared.views.View.{View}
-use Rattle.st_rule.specs.declared.views.View.TheVariants.{Mut, Gone}
+use Rattle.st_rule.specs.declared.views.View.TheVariants.{Mut, Lane, Gone}
 use Rattle.st_rule.specs.Parts.{Sits, JournalPart, GatePart, LoadedPart, HasLoaded, HandPart, IsJoined, Seating}
-use Rattle.st_rule.specs.Rule.{Told, Moment, HoldsAt, IsSoundTable}
+use Rattle.st_rule.specs.Rule.{Told, Moment, HoldsAt, IsSoundTable, world_of}
+use Rattle.st_rule.specs.Reading.{IsReading}
+use Rattle.st_rule.proofs.ReadLemmas.{lanes_stay, mut_is_no_lane}
 use Rattle.st_rule.specs.Turns.{split_one, newcomer}
 use Rattle.st_rule.specs.Views.{seen_by, is_closer}
 use Rattle.st_rule.specs.declared.views.Held.{Held}
@@ -196,6 +198,12 @@ module _ (told : Told) (id : ℕ) (v : MutView) (m : Moment) (words : List ℕ) 
     object_part = h.object_part;
     lane_part = h.lane_part;
     copy_part = h.copy_part;
+    read_part = record {
+      reads = λ j u there. ⊎_elim
+          (λ old. lanes_stay views id l (λ j u. IsReading told.terms (world_of told.terms m) (λ l. m.board (LaneWord l)) (λ o l. m.board (ForwardWord o l)) u) h.read_part.reads j u old)
+          (λ new. absurd (mut_is_no_lane r u new.1))
+          (at_end (set views id (Mut l)) (Mut r) (Lane u) j there);
+    };
     hand_part = hands_split;
     seating = seating_split;
   }

@@ -1,5 +1,5 @@
 -- The table at the start meets the rule.
-use Rattle.std.proofs.Common.{◌≡◌, ◌≢◌, ◌==◌, Bool, map, Option, Some, None, ℕ, zero, suc, ◌+◌, ◌<◌, ◌≤◌, true, false, nat_lt, if◌then◌else◌, List, []}
+use Rattle.std.proofs.Common.{◌≡◌, ◌≢◌, ◌==◌, Bool, map, Some, None, ℕ, zero, suc, ◌+◌, ◌<◌, ◌≤◌, true, false, nat_lt, if◌then◌else◌, List, []}
 use Rattle.std.proofs.Common.{◌∷◌, sym}
 use Rattle.std.proofs.Common.{refl, subst, arith, inl}
 use Rattle.std.proofs.lemmas.Bool.Decides.{nat_tests}
@@ -16,7 +16,7 @@ use Rattle.st_rule.specs.declared.views.Phase.TheVariants.{Outside, Inside, Alon
 use Rattle.st_rule.specs.declared.views.Terms.{Terms}
 use Rattle.st_rule.specs.declared.views.MutView.{MutView}
 use Rattle.st_rule.specs.declared.views.View.{View}
-use Rattle.st_rule.specs.declared.views.View.TheVariants.{Mut}
+use Rattle.st_rule.specs.declared.views.View.TheVariants.{Mut, Lane}
 use Rattle.st_rule.specs.Board.{Displays, first_board, plan_of}
 use Rattle.st_rule.specs.Parts.{Sits, HasLoaded, ObjectPart, IsJoined}
 use Rattle.st_rule.specs.Entries.{own_entries}
@@ -33,6 +33,8 @@ use Rattle.st_rule.specs.Rule.{Told, Moment, IsSoundTable, first_view}
 use Rattle.st_rule.specs.SeatValue.{KeepsSeat}
 use Rattle.st_rule.specs.Views.{seen_by, is_closer}
 use Rattle.st_rule.proofs.ViewLemmas.{mut_is}
+use Rattle.st_rule.specs.Reading.{IsReading}
+use Rattle.st_rule.proofs.ReadLemmas.{mut_is_no_lane}
 use Rattle.st_rule.proofs.PrefixLemmas.{prefix_self}
 
 -- no event is no illegal one
@@ -134,6 +136,10 @@ module _ (told : Told) (fits : AreWithinLimits told.terms.sizes) (shape_fits : I
         epochs = λ object l. omega arith;
         owed = λ object l x flies. absurd cc;
         built = λ object x flies. absurd cc;
+      };
+      read_part = record {
+        reads = λ id u there. only_one (λ id x. x ≡ Lane u → IsReading told.terms (first_world told.terms.shape) (λ l. 0) (λ o l. 0) u) (Mut v)
+            (λ e. absurd (mut_is_no_lane v u e)) id (Lane u) there refl;
       };
       copy_part = record {
         some_left = λ few. omega arith;

@@ -28,6 +28,8 @@ use Rattle.st_rule.specs.Entries.{own_entries}
 use Rattle.st_rule.specs.Views.{seen_by, flag_of, is_closer}
 use Rattle.st_rule.proofs.ViewLemmas.{set_there, sits_once, mut_is, gone_is_no_mutator, all_set, all_mut_set, at_here, at_else}
 use Rattle.st_rule.proofs.PrefixLemmas.{prefix_self, prefix_trans}
+use Rattle.st_rule.proofs.ReadLemmas.{lanes_stay, reading_on}
+use Rattle.st_rule.specs.Reading.{IsReading}
 use Rattle.atomic_table.proofs.Lists.{set_else}
 
 -- what no step changes of a view
@@ -65,9 +67,16 @@ pub record StaysOnBoard (phase : ℕ → Phase) (before after : Board) : Type 0 
   pub clock : after ClockWord ≡ before ClockWord
   pub board : (name : WordName) → stays_loaded Inside name ≡ true → after name ≡ before name
   pub loaded : (n : ℕ) (name : WordName) → stays_loaded (phase n) name ≡ true → after name ≡ before name
+  -- and a forwarding word of its lane's check is not written
+  pub forwarded : (o l : ℕ) → high_half (before (ForwardWord o l)) ≡ before (LaneWord l) → after (ForwardWord o l) ≡ before (ForwardWord o l)
 
 pub leaves_board : {phase : ℕ → Phase} {before after : Board} → LeavesBoard before after → StaysOnBoard phase before after
-leaves_board leaves = record { clock = leaves Alone ClockWord refl; board = λ name keeps. leaves Inside name keeps; loaded = λ n name keeps. leaves _ name keeps }
+leaves_board leaves = record {
+  clock = leaves Alone ClockWord refl;
+  board = λ name keeps. leaves Inside name keeps;
+  loaded = λ n name keeps. leaves _ name keeps;
+  forwarded = λ o l epoch. leaves Alone (ForwardWord o l) refl;
+}
 
 -- the parts on old versions, for what is in flight at each object and these words
 abbrev pub VersionsAt : Told → Moment → (ℕ → Option Flight) → Board → Type 0
@@ -285,6 +294,11 @@ module _ (told : Told) (m : Moment) (words : List ℕ) (views : List View) (h : 
         object_part = objects;
         lane_part = versions.0;
         copy_part = versions.1;
+        read_part = record {
+          reads = lanes_stay views id w (λ j u. IsReading told.terms (world_of told.terms m) (λ l. board' (LaneWord l)) (λ o l. board' (ForwardWord o l)) u)
+              (λ j u there. reading_on told.terms (world_of told.terms m) (world_of told.terms m) (λ l. m.board (LaneWord l)) (λ l. board' (LaneWord l))
+              (λ o l. m.board (ForwardWord o l)) (λ o l. board' (ForwardWord o l)) u refl refl (λ l. quiet.board (LaneWord l) refl) quiet.forwarded (h.read_part.reads j u there));
+        };
         hand_part = hands_after;
         seating = seating_after;
       }

@@ -6,7 +6,7 @@ use Rattle.st_layout.specs.Names.{WordName, ClosingWord, ClockWord, EpochWord, A
 use Rattle.st_layout.specs.Names.{ForwardWord, FieldWord, CopyWord, FreeWord, RowWord, HasWord}
 use Rattle.st_layout.specs.Layout.{word_of, words_of}
 use Rattle.st_rule.specs.declared.views.Phase.{Phase}
-use Rattle.st_rule.specs.declared.views.Phase.TheVariants.{Outside, Entering, Inside, Closing, Alone}
+use Rattle.st_rule.specs.declared.views.Phase.TheVariants.{Inside, Alone}
 
 -- the value of each word
 abbrev pub Board : Type 0

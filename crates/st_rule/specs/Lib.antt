@@ -7,9 +7,11 @@ pub mod Versions
 pub mod Turns
 pub mod Draws
 pub mod Parts
+pub mod Reading
 pub mod Rule
 pub mod Ends
 pub mod Keys
 pub mod Plays
 pub mod SeatValue
 pub mod Seats
+pub mod LaneSeats

@@ -17,6 +17,7 @@ use Rattle.st_rule.specs.declared.views.MutView.{MutView}
 use Rattle.st_rule.specs.declared.views.View.{View}
 use Rattle.st_rule.specs.Board.{Board, Displays, plan_of}
 use Rattle.st_rule.specs.Holding.{holding, flight_of}
+use Rattle.st_rule.specs.Reading.{ReadPart}
 use Rattle.st_rule.specs.Versions.{LanePart, CopyPart}
 use Rattle.st_rule.specs.declared.views.Flight.{Flight}
 use Rattle.st_events.specs.declared.limits.Sizes.{Sizes}
@@ -61,6 +62,10 @@ CopiesAt sizes world board since flight =
     CopyPart sizes world (λ l. board (LaneWord l)) (board AvailableWord) (low_half (board ClockWord)) since flight (λ o l. board (ForwardWord o l))
     (λ i. board (FreeWord i))
 
+-- the part on reads, by the words of a board
+abbrev pub ReadsAt : Terms → World → Board → List View → Type 0
+ReadsAt terms world board views = ReadPart terms world (λ l. board (LaneWord l)) (λ o l. board (ForwardWord o l)) views
+
 -- all that the journal of the moment says
 abbrev pub world_of : Terms → Moment → World
 world_of terms m = world_after terms.shape terms.sizes m.journal
@@ -80,6 +85,7 @@ pub record HoldsAt (told : Told) (m : Moment) (words : List ℕ) (views : List V
       (λ o f. m.board (FieldWord o f)) (λ o l. m.board (ForwardWord o l))
   pub lane_part : LanesAt told.terms.sizes (world_of told.terms m) m.board (flights_of m.grip m.holder)
   pub copy_part : CopiesAt told.terms.sizes (world_of told.terms m) m.board m.since (flights_of m.grip m.holder)
+  pub read_part : ReadsAt told.terms (world_of told.terms m) m.board views
   pub hand_part : HandPart m.seat m.split m.journal views
   pub seating : Seating told.terms m.phase m.grip m.seat m.split views
 

@@ -15,7 +15,6 @@ use Rattle.st_rule.specs.declared.views.GateView.{GateView}
 use Rattle.st_rule.specs.declared.views.BoardView.{BoardView}
 use Rattle.st_rule.specs.declared.views.Held.{Held}
 use Rattle.st_rule.specs.declared.views.Flight.{Flight}
-use Rattle.st_rule.specs.declared.views.LoadedField.{LoadedField}
 use Rattle.st_rule.specs.declared.views.MutView.{MutView}
 use Rattle.st_rule.specs.declared.views.View.{View}
 use Rattle.st_rule.specs.declared.views.View.TheVariants.{Mut, Lane, Gone}

@@ -8,6 +8,8 @@ mod barrier_steps;
 mod closing;
 mod forwards;
 mod keys;
+mod lane_seats;
+mod lane_steps;
 mod making;
 mod object_accesses;
 mod object_steps;
@@ -23,6 +25,7 @@ mod views;
 
 pub use closing::Closed;
 pub use forwards::LOST;
+pub use lane_seats::LaneSeat;
 pub use seats::{MutSeat, SeatLog};
 pub use tables::Shared;
 pub use views::{

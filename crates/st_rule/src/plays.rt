@@ -3,6 +3,7 @@ ghost use Rattle.std.specs.Prelude.{[]};
 ghost use Rattle.st_events.specs.declared.events.Event.{Event};
 ghost use Rattle.st_events.specs.declared.events.Event.TheVariants.{Retire};
 ghost use Rattle.st_layout.specs.Packed.{high_half};
+ghost use Rattle.st_rule.specs.LaneSeats.{ReadsField, ReadsForward, ReadsCopy};
 ghost use Rattle.st_rule.specs.Plays.{Becomes, Learns, LoadsBoard, LocksWhere, FindsField, StoresForward, Draws};
 ghost use Rattle.st_rule.specs.Turns.{flagged_in, looked, flagged_out, took_gate, saw, gave_gate, number_of_flag};
 ghost use Rattle.st_rule.specs.Turns.{looked_last, unlocked, word_written, copy_stored};
@@ -107,6 +108,27 @@ pub struct ForwardStore;
 
 impl Play<(), View> for ForwardStore {
     ghost then = { λ step before word after. StoresForward step.word before word after };
+}
+
+/// Check field load. Which object and field it is, the word's number tells.
+pub struct CheckField;
+
+impl Play<(), View> for CheckField {
+    ghost then = { λ step before word after. ReadsField step.word before word after };
+}
+
+/// Check forward load.
+pub struct CheckForward;
+
+impl Play<(), View> for CheckForward {
+    ghost then = { λ step before word after. ReadsForward before word after };
+}
+
+/// Check copy load.
+pub struct CheckCopy;
+
+impl Play<(), View> for CheckCopy {
+    ghost then = { λ step before word after. ReadsCopy before word after };
 }
 
 /// Which event is drawn. The clock's word does not tell it, so the call that draws picks it.

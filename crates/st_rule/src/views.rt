@@ -129,6 +129,16 @@ pub struct MutView {
     pub hands: HandsView,
 }
 
+/// A read that is half done.
+pub struct HalfRead {
+    pub object: u32,
+    pub field: u8,
+    /// The object's own word, which was loaded first.
+    pub value: u64,
+    /// The forwarding word of the lane, once it was loaded and names a copy.
+    pub forward: Option<u64>,
+}
+
 /// What the seat of an active check knows. None is made yet.
 pub struct LaneView {
     pub terms: Terms,
@@ -136,7 +146,12 @@ pub struct LaneView {
     pub lane: u8,
     /// The number of the check that it has in hand.
     pub check: u32,
+    /// The events before the check's launch.
+    pub past: LinkedList<Event>,
+    /// The journal as far as it has seen it.
     pub seen: LinkedList<Event>,
+    /// The read that is half done, if any.
+    pub read: Option<HalfRead>,
 }
 
 /// What a seat of the table knows.

@@ -1,4 +1,4 @@
-use Rattle.std.proofs.Common.{◌∙◌, ◌≡◌, ℕ, ◌++◌, ◌+◌, ◌-◌, ◌*◌, ◌%◌, ◌^◌, ◌∷◌, [], sym, ap, refl, subst}
+use Rattle.std.proofs.Common.{◌∙◌, ℕ, ◌++◌, ◌+◌, ◌-◌, ◌%◌, ◌^◌, ◌∷◌, [], sym, ap, subst}
 use Rattle.st_rule.specs.Keys.{told_by}
 use Rattle.st_rule.specs.Views.{mutator_of}
 use Rattle.st_rule.specs.declared.views.MutView.{MutView}

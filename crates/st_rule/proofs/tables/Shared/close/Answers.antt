@@ -1,4 +1,4 @@
-use Rattle.std.proofs.Common.{◌≡◌, ◌∙◌, ◌-◌, ℕ, length, sym, ap, subst, arith}
+use Rattle.std.proofs.Common.{◌∙◌, length, sym, ap, subst}
 use Rattle.atomic_table.specs.Table.{Final, Seen}
 use Rattle.st_layout.specs.Layout.{word_of}
 use Rattle.st_layout.specs.Names.{ClockWord, AvailableWord}

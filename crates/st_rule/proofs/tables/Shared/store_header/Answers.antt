@@ -7,7 +7,7 @@ use Rattle.st_rule.specs.Draws.{MayUnlock}
 use Rattle.st_rule.specs.Keys.{told_by}
 use Rattle.st_rule.specs.Views.{mutator_of}
 use Rattle.st_rule.proofs.ActSteps.{unlock_keeps}
-use Rattle.st_rule.proofs.ObjectSeats.{hand_within, unlock_kept}
+use Rattle.st_rule.proofs.ObjectSeats.{hand_within}
 use Rattle.st_rule.proofs.tables.Shared.store_header.Goals as goal
 
 pub header_place-word-requires : goal.header_place-word-requires
