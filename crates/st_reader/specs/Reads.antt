@@ -1,0 +1,32 @@
+-- What a read makes of its lane's seat, and what it tells.
+use Rattle.std.specs.Prelude.{◌≡◌, ℕ, ◌+◌, ◌≤◌, true, None}
+use mathlib.Core.List.{IsPrefix}
+use Rattle.st_events.specs.Legal.{IsLegal}
+use Rattle.st_events.specs.History.{lost_pairs}
+use Rattle.st_events.specs.World.{is_lost}
+use Rattle.st_rule.specs.declared.views.LaneView.{LaneView}
+use Rattle.st_rule.specs.LaneSeats.{LaneValue, IsFairLane}
+
+-- the object and the lane's check are among the lost pairs of the list that the lane has seen
+abbrev pub IsLostTo : LaneView → ℕ → Type 0
+IsLostTo u obj = is_lost (lost_pairs u.terms.shape u.terms.sizes u.seen) obj u.check ≡ true
+
+-- the same seat, with its lane, its check and its past; it has seen no less, which is legal, and no read is half done
+pub record LeavesLane (before after : LaneValue) : Type 0 where
+  pub table : after.table ≡ before.table
+  pub id : after.id ≡ before.id
+  pub terms : after.view.terms ≡ before.view.terms
+  pub lane : after.view.lane ≡ before.view.lane
+  pub check : after.view.check ≡ before.view.check
+  pub past : after.view.past ≡ before.view.past
+  pub goes_on : IsPrefix before.view.seen after.view.seen
+  pub legal : IsLegal after.view.terms.shape after.view.terms.sizes after.view.seen
+  pub fair : IsFairLane after.view
+  pub quiet : after.view.read ≡ None
+
+-- at most three atomic steps, as many by the seat's own count as by the other
+pub record CountsSteps (before after : LaneView) (counted counted' : ℕ) : Type 0 where
+  pub taken : ℕ
+  pub few : taken ≤ 3
+  pub seat : after.tally.steps ≡ before.tally.steps + taken
+  pub count : counted' ≡ counted + taken
