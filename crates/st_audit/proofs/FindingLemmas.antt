@@ -20,7 +20,7 @@ use Rattle.st_audit.specs.Differences.{Differs, IsFirstDifference, IsTrace}
 use Rattle.st_audit.specs.Findings.{IsRightJournal, IsFinding}
 
 -- a legal journal has no first illegal event
-legal_has_no_fault : (shape : ShapeLists) (sizes : Sizes) (es : List Event) (place : ℕ) (why : Why) → IsLegal shape sizes es → IsFirstIllegal shape sizes es place why → ⊥
+pub legal_has_no_fault : (shape : ShapeLists) (sizes : Sizes) (es : List Event) (place : ℕ) (why : Why) → IsLegal shape sizes es → IsFirstIllegal shape sizes es place why → ⊥
 legal_has_no_fault shape sizes es place why l f =
     let here : illegal_reason shape sizes (world_after shape sizes f.before) f.event ≡ None = each_is_legal shape sizes f.before f.rest f.event (subst (IsLegal shape sizes) f.split l) in
     let fault : Some why ≡ None = sym f.reason ∙ here in cc
@@ -41,7 +41,7 @@ leads_on p sizes thread before [] (asks_for request) end leads whole differs =
     let both : asks_for request ≡ has_ended end = sym (events_lead_by_replies.now p sizes thread before (asks_for request) leads) ∙ over in cc
 leads_on p sizes thread before [] (has_ended other) end leads whole differs = differs
 
-trace_does_not_differ : (p : Program) (sizes : Sizes) (es : List Event) (thread number : ℕ) → IsTrace p sizes es thread → IsFirstDifference p sizes thread (own_events thread es) number → ⊥
+pub trace_does_not_differ : (p : Program) (sizes : Sizes) (es : List Event) (thread number : ℕ) → IsTrace p sizes es thread → IsFirstDifference p sizes thread (own_events thread es) number → ⊥
 unfolding Follows
 trace_does_not_differ p sizes es thread number t d =
     leads_on p sizes thread d.before d.rest d.turn t.0 d.leads (subst (λ (own : List Event). LeadTo p sizes thread own (has_ended t.0)) d.split t.1) d.differs

@@ -6,4 +6,5 @@ pub mod JudgeLemmas
 pub mod LaunchLemmas
 pub mod ListLemmas
 pub mod MarkLemmas
+pub mod OneLemmas
 pub mod RoomLemmas

@@ -16,3 +16,13 @@ HaveNoneWhereRight =
     → IsRightJournal shape p sizes es verdicts
     → IsFinding shape p sizes es verdicts f
     → f ≡ Memory
+
+-- a journal has one finding at most, memory aside
+abbrev pub HaveOneAtMost : Type 0
+HaveOneAtMost =
+    (shape : ShapeLists) (p : Program) (sizes : Sizes) (es : List Event) (verdicts : List Verdict) (f g : Finding)
+    → ¬ (f ≡ Memory)
+    → ¬ (g ≡ Memory)
+    → IsFinding shape p sizes es verdicts f
+    → IsFinding shape p sizes es verdicts g
+    → f ≡ g
