@@ -1,0 +1,14 @@
+pub mod BeginLemmas
+pub mod CellLemmas
+pub mod CheckTurnLemmas
+pub mod ChoiceLemmas
+pub mod CourseLemmas
+pub mod EndLemmas
+pub mod GoLemmas
+pub mod LaunchLemmas
+pub mod OpenLemmas
+pub mod ReadLemmas
+pub mod RetireLemmas
+pub mod RunLemmas
+pub mod SeatLemmas
+pub mod TurnLemmas
