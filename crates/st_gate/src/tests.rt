@@ -4,17 +4,18 @@ ghost use Rattle.std.specs.Thread.{IsSync};
 ghost use Rattle.st_events.specs.Sizes.{AreWithinLimits};
 ghost use Rattle.st_gate.specs.Later.{IsLater};
 ghost use Rattle.st_gate.specs.Phases.{IsOutside};
+ghost use Rattle.st_rule.specs.Named.{IsNamedSeat, IsNamedTable};
 ghost use Rattle.st_rule.specs.Rule.{first_view};
 ghost use Rattle.st_rule.specs.Seats.{IsSeatOf, sizes_of, terms_of};
 
 use crate::closing::see_others;
 use crate::{close_gate, enter, leave, open_gate};
 use st_events::{Judge, Shape, Sizes};
-use st_rule::{MutSeat, Shared};
+use st_rule::{MutSeat, Naming, Shared};
 use std::alloc::Global;
-use std::marker::Model;
-use std::sync::Wait;
+use std::marker::{Brand, Model, PhantomData};
 use std::sync::atomic::{AtomicU64, Ordering};
+use std::sync::{Mutex, Wait};
 use std::test::Fail;
 use std::thread::{Threads, join};
 
@@ -217,5 +218,56 @@ fn a_closed_gate_refuses_a_second_closer(rt: HostRuntime) -> Result<(), Fail> {
     let (shared, main) = Shared::make(rt.alloc(), &judge, &sizes_of_two())?;
     let (closed, opened) = second_closer(&rt, rt.alloc(), shared, main)?;
     assert!(rt; closed && !opened);
+    Ok(())
+}
+
+/// A seat that lies behind a lock. Its type says of which table it is.
+#[derive(Drop)]
+struct Kept<J: Judge, N: Naming<J>> {
+    seat: MutSeat<J>,
+    of: PhantomData<N>,
+    ghost named: { IsNamedSeat J.meant N.table N.judge N.sizes seat },
+    ghost outside: { IsOutside seat },
+}
+
+impl<J: Judge, N: Naming<J>> Kept<J, N> {
+    /// Steps with the seat at the table that its type names. Gives the clock's word.
+    fn look(&mut self, shared: &Shared<J>) -> u64
+        requires { IsNamedTable N.table N.judge N.sizes shared.now }
+    {
+        shared.last_look(&mut self.seat)
+    }
+}
+
+/// Puts a seat behind a lock, and steps with it there.
+fn look_behind_a_lock<J: Judge, N: Naming<J>, R: Wait>(
+    rt: &R,
+    shared: &Shared<J>,
+    seat: MutSeat<J>,
+) -> u64
+    requires named { IsNamedTable N.table N.judge N.sizes shared.now }
+    requires seat { IsNamedSeat J.meant N.table N.judge N.sizes seat }
+    requires phase { IsOutside seat }
+{
+    let kept: Mutex<Kept<J, N>> = Mutex::new(Kept {
+        seat,
+        of: PhantomData,
+    });
+    kept.lock(rt).look(shared)
+}
+
+/// The same for any table, whose name is picked here.
+fn look_at<J: Judge, R: Wait>(rt: &R, shared: &Shared<J>, seat: MutSeat<J>) -> u64
+    requires table { IsSeatOf J.meant shared.now seat }
+    requires phase { IsOutside seat }
+{
+    look_behind_a_lock::<J, Brand, R>(rt, shared, seat)
+}
+
+#[test]
+fn a_seat_behind_a_lock_is_of_the_named_table(rt: HostRuntime) -> Result<(), Fail> {
+    let judge = quiet_judge(rt.alloc())?;
+    let (shared, main) = Shared::make(rt.alloc(), &judge, &sizes_of_two())?;
+    assert_eq!(rt; look_at(&rt, &shared, main), 0);
     Ok(())
 }

@@ -32,3 +32,4 @@ pub mod DrawVersions
 pub mod BarrierSteps
 pub mod LaneSteps
 pub mod LaneSeatLemmas
+pub mod NamedLemmas

@@ -15,3 +15,4 @@ pub mod Plays
 pub mod SeatValue
 pub mod Seats
 pub mod LaneSeats
+pub mod Named

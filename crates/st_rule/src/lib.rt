@@ -11,6 +11,7 @@ mod keys;
 mod lane_seats;
 mod lane_steps;
 mod making;
+mod naming;
 mod object_accesses;
 mod object_steps;
 mod passing;
@@ -26,6 +27,7 @@ mod views;
 pub use closing::Closed;
 pub use forwards::LOST;
 pub use lane_seats::LaneSeat;
+pub use naming::Naming;
 pub use seats::{MutSeat, SeatLog};
 pub use tables::Shared;
 pub use views::{
