@@ -4,5 +4,6 @@ pub mod Device
 pub mod Growth
 pub mod MemoryFiles
 pub mod MemorySink
+pub mod States
 pub mod SureFiles
 pub mod Taking

@@ -9,11 +9,11 @@ use std::alloc::Global;
 // Puts the lines one after another, until a put fails.
 fn put_all<S: Sink>(out: &mut S, lines: &[String]) -> Result<(), SinkFault>
     ensures ok { OnOk result
-        (Grows (S.written out.old) (flat_map (λ line. string_bytes line) lines.now) (S.written out.new)) }
+        (Grows (S.state out.old).written (flat_map (λ line. string_bytes line) lines.now) (S.state out.new).written) }
     ensures cut { OnErr result
-        (GrowsByFront (S.written out.old) (flat_map (λ line. string_bytes line) lines.now) (S.written out.new)) }
-    ensures failed { OnErr result (RoseBy 1 (S.faults out.old) (S.faults out.new)) }
-    ensures faults { S.faults out.old ≤ S.faults out.new }
+        (GrowsByFront (S.state out.old).written (flat_map (λ line. string_bytes line) lines.now) (S.state out.new).written) }
+    ensures failed { OnErr result (RoseBy 1 (S.state out.old).faults (S.state out.new).faults) }
+    ensures faults { (S.state out.old).faults ≤ (S.state out.new).faults }
 {
     for line in lines {
         out.put(line.as_bytes())?;
@@ -23,9 +23,9 @@ fn put_all<S: Sink>(out: &mut S, lines: &[String]) -> Result<(), SinkFault>
 
 // How many bytes a file has.
 fn measure<F: Files>(alloc: Global, files: &mut F, name: &str) -> Result<usize, FilesFault>
-    ensures size { IfOk result (λ size. IfSome (F.told files.old name.now) (λ bytes. size ≡ length bytes)) }
-    ensures failed { result ≡ Err FilesFault.Failed → RoseBy 1 (F.faults files.old) (F.faults files.new) }
-    ensures faults { F.faults files.old ≤ F.faults files.new }
+    ensures size { IfOk result (λ size. IfSome ((F.state files.old).told name.now) (λ bytes. size ≡ length bytes)) }
+    ensures failed { result ≡ Err FilesFault.Failed → RoseBy 1 (F.state files.old).faults (F.state files.new).faults }
+    ensures faults { (F.state files.old).faults ≤ (F.state files.new).faults }
 {
     let mut bytes = Vec::new(alloc);
     files.read_whole(name, 1_000, &mut bytes)?;

@@ -93,11 +93,7 @@ fn choose_content<'a>(
 }
 
 impl Files for MemFiles {
-    ghost told = { λ files. content_of files.files };
-
-    ghost faults = { λ files. files.faults };
-
-    ghost taken = { λ files. files.taken };
+    ghost state = { λ files. record { told = content_of files.files; faults = files.faults; taken = files.taken } };
 
     fn read_whole(&mut self, name: &str, limit: u32, into: &mut Vec<u8>) -> Result<(), FilesFault>
         requires { into.old.items ≡ [] }

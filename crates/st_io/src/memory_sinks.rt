@@ -108,9 +108,7 @@ fn append(bytes: &mut Vec<u8>, piece: &[u8])
 impl Sink for MemSink {
     ghost use Rattle.std.specs.Prelude.{Some};
 
-    ghost written = { λ sink. Some sink.bytes };
-
-    ghost faults = { λ sink. sink.faults };
+    ghost state = { λ sink. record { written = Some sink.bytes; faults = sink.faults } };
 
     fn put(&mut self, bytes: &[u8]) -> Result<(), SinkFault>
         ensures appended { OnOk result (Grows (Some self.old.bytes) bytes.now (Some self.new.bytes)) }

@@ -45,9 +45,7 @@ fn write_through<W: Write>(writer: &mut W, bytes: &[u8]) -> io::Result<()>
 impl<R: Print> Sink for RealSink<'_, R> {
     ghost use Rattle.std.specs.Prelude.{None};
 
-    ghost written = { λ _. None };
-
-    ghost faults = { λ sink. sink };
+    ghost state = { λ sink. record { written = None; faults = sink } };
 
     fn put(&mut self, bytes: &[u8]) -> Result<(), SinkFault>
         ensures appended { OnOk result (Grows None bytes.now None) }

@@ -36,11 +36,7 @@ impl SureFiles {
 impl Files for SureFiles {
     ghost use Rattle.std.specs.Prelude.{Some};
 
-    ghost told = { λ files _. Some files.text };
-
-    ghost faults = { λ _. 0 };
-
-    ghost taken = { λ files. files.taken };
+    ghost state = { λ files. record { told = λ _. Some files.text; faults = 0; taken = files.taken } };
 
     fn read_whole(
         &mut self,
@@ -59,9 +55,7 @@ pub struct SureSink;
 impl Sink for SureSink {
     ghost use Rattle.std.specs.Prelude.{None};
 
-    ghost written = { λ _. None };
-
-    ghost faults = { λ _. 0 };
+    ghost state = { λ _. record { written = None; faults = 0 } };
 
     fn put(&mut self, _bytes: &[u8]) -> Result<(), SinkFault> {
         Ok(())

@@ -64,11 +64,7 @@ fn read_file<R: FileSystem>(
 }
 
 impl<R: FileSystem> Files for RealFiles<'_, R> {
-    ghost told = { λ _. untold };
-
-    ghost faults = { λ files. files.faults };
-
-    ghost taken = { λ files. files.taken };
+    ghost state = { λ files. record { told = untold; faults = files.faults; taken = files.taken } };
 
     fn read_whole(&mut self, name: &str, limit: u32, into: &mut Vec<u8>) -> Result<(), FilesFault>
         requires { into.old.items ≡ [] }
