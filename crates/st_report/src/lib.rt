@@ -3,6 +3,7 @@
 
 mod as_json;
 mod checks;
+mod last_lines;
 mod objects;
 mod reports;
 mod statuses;
@@ -11,6 +12,7 @@ mod tallies;
 mod tests;
 
 pub use as_json::report_json;
+pub use last_lines::last_line;
 pub use reports::report;
 pub use statuses::{
     STATUS_CHECK_FAILS, STATUS_HOLDS, STATUS_UNDECIDED, STATUS_UNFINISHED, run_status,

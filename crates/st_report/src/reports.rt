@@ -128,7 +128,11 @@ fn put_line(out: &mut Vec<u8>, word: &[u8], thread: &[u8], rest: &[u8]) -> Resul
 }
 
 /// Puts the line of the counts.
-fn put_counts(out: &mut Vec<u8>, alloc: Global, verdicts: &[Verdict]) -> Result<(), NoMemory>
+pub(crate) fn put_counts(
+    out: &mut Vec<u8>,
+    alloc: Global,
+    verdicts: &[Verdict],
+) -> Result<(), NoMemory>
     ensures { OnOk result (out.new.items ≡ out.old.items ++ count_line verdicts.now) }
 {
     let checks = verdicts.len();

@@ -1,4 +1,10 @@
-mod Examples
-pub mod OutcomeLemmas
-pub mod ReportLemmas
-pub mod SourceLemmas
+pub mod CallLemmas
+pub mod DoingLemmas
+pub mod DoneLemmas
+pub mod EndingLemmas
+pub mod InputLemmas
+pub mod ProgramLemmas
+pub mod PuttingLemmas
+pub mod ReadingLemmas
+pub mod RefusalLemmas
+pub mod RunLemmas

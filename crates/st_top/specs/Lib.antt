@@ -1,10 +1,11 @@
--- What the contract of the top call speaks of.
+-- What the contracts of the top call speak of.
 pub mod Causes
-pub mod Refusals
-pub mod LineBytes
-pub mod Outcomes
+pub mod Commands
+pub mod Deeds
+pub mod Endings
+pub mod Headline
+pub mod Orders
+pub mod Outputs
+pub mod Programs
 pub mod Putting
-pub mod Report
-pub mod Sources
-pub mod Texts
-pub mod Words
+pub mod Refusals

@@ -1,40 +1,37 @@
-//! The top call, and the same over a text in memory.
-ghost use Rattle.std.specs.Prelude.{◌≡◌, ◌≢◌, ◌≤◌, ◌⊎◌, ◌↔◌, ℕ, List, IsTrue, IsSome, None, IfOk, IfErr, IfSome, IfNone};
+//! The top call, the same for words that were read, and the same over a text in memory.
+ghost use Rattle.std.specs.Prelude.{◌≡◌, ◌≢◌, ◌≤◌, ◌⊎◌, ◌↔◌, Some, None, IsSome, IfSome};
 ghost use Rattle.st_io.specs.Counts.{RoseBy};
-ghost use Rattle.st_io.specs.Device.{counts_of};
-ghost use Rattle.st_top.specs.Causes.{HasCause};
-ghost use Rattle.st_top.specs.Outcomes.{IsReported, IsRefused, IsRefusedExactly, IsStatusOfRun};
-ghost use Rattle.st_top.specs.Report.{some_fails};
-ghost use Rattle.st_top.specs.Sources.{HasReport, IsRunOfText, IsAccepted, source_of};
-ghost use Rattle.st_top.specs.Words.{named_file, texts};
+ghost use Rattle.st_io.specs.States.{GoOn};
+ghost use Rattle.st_top.specs.Commands.{IsInputAccepted};
+ghost use Rattle.st_top.specs.Endings.{IsEnded, IsDoneCall, IsRefusedCall, IsDoneStatus, IsRefusalStatus, AreWordsRefused};
+ghost use Rattle.st_top.specs.Endings.{HasHeadline, HasRunStatus, IsRefusedExactly, IsStatusOf, IsComplete};
+ghost use Rattle.st_top.specs.Orders.{order_of};
+ghost use Rattle.st_words.specs.Accepted.{accepted_words, texts, HasFittingNumbers};
 
+use crate::commands::perform;
 use crate::errors::Refusal;
 use crate::outcomes::Outcome;
-use crate::sources::{Finished, run_file};
-use crate::statuses::{
-    STATUS_CHECK_FAILS, STATUS_HOLDS, STATUS_NO_MEMORY, STATUS_READ_FAULT, STATUS_WORDS,
-    STATUS_WRITE_FAULT,
-};
-use crate::words::find_named_file;
-use crate::writing::{publish, refuse};
+use crate::statuses::{STATUS_NO_MEMORY, STATUS_READ_FAULT, STATUS_WORDS, STATUS_WRITE_FAULT};
+use crate::writing::{publish, refuse, refuse_without_memory};
 use st_io::{Files, NoPace, Pace, Sink, SureFiles, SureSink};
+use st_words::{Words, WordsError, read_words};
 use std::alloc::Global;
 use std::sync::Wait;
 use std::thread::Threads;
 
-/// Does what the words, which are without the program's name, say: `run FILE` runs the source in the file with the usual
-/// sizes, and writes its report to `out`. Every other list of words is refused. Where there is no run, one line says why.
+/// Does what the words, which are without the program's name, say, and writes what it comes to. Until runs on real threads
+/// come, each run goes by a schedule, that of seed 0 where the words name none, and `--checkers` changes nothing; so the
+/// call waits for nobody, and does not use its pace.
 ///
-/// The status is the first that applies of: wrong words, want of memory, a read that failed, a source that is refused, a
-/// write that failed, a check that fails, and 0. All memory for a report is had before any of it is written. Each line is
-/// put by one call, with its newline, and nothing is put after a put that failed. The call waits for nobody, and does not
-/// use its pace.
+/// The status is the first that applies of: 2, the words are refused; 7, want of memory; 5, a read that failed; 3, a source
+/// or a journal that is refused; 6, a write that failed; 4, a thread that does not come to its end; 1, a check that fails or
+/// faults, or a finding of an audit; 8, a check without an answer; and 0. All that is written is had before any of it is
+/// put. Each line is put by one call, with its newline, and nothing is put after a put that failed.
 ///
-/// The clause `run` says, of sources of the small form, in which no check is ever Abandoned: If a run of an accepted program
-/// returns without device fault or want of memory, its journal is one legal history of a one-thread heap, holding each
-/// mutator's steps once, in its order and to its end; every launched check has one verdict, the predicate's plain value on
-/// the heap replayed up to that launch, or Abandoned, only where the full copy pool lost a version that this evaluation
-/// reads.
+/// The clause `headline` says: If a run of an accepted program returns without device fault or want of memory, its journal is
+/// one legal history of a one-thread heap, holding each mutator's steps once, in its order and to its end; every launched
+/// check has one verdict, the predicate's plain value on the heap replayed up to that launch, or Abandoned, only where the
+/// full copy pool lost a version that this evaluation reads.
 pub fn strobe<R: Threads + Wait + Sync, F: Files, S: Sink, P: Pace + Sync>(
     _rt: &R,
     alloc: Global,
@@ -43,95 +40,122 @@ pub fn strobe<R: Threads + Wait + Sync, F: Files, S: Sink, P: Pace + Sync>(
     out: &mut S,
     _pace: &P,
 ) -> Outcome
-    // The cause of each status but want of memory, which may come whenever the words are right.
-    ensures words { (result.status ≡ STATUS_WORDS) ↔ (named_file (texts words.now) ≡ None) }
-    ensures source { IfSome (source_of (F.told files.old) (texts words.now)) (λ text. IsRefusedExactly text result.status) }
-    ensures read_fault { result.status ≡ STATUS_READ_FAULT → RoseBy 1 (F.faults files.old) (F.faults files.new) }
-    ensures write_fault { result.status ≡ STATUS_WRITE_FAULT → RoseBy 1 (S.faults out.old) (S.faults out.new) }
-    ensures check_fails { IfSome result.ran (λ ran. result.status ≢ STATUS_WRITE_FAULT
-        → ((result.status ≡ STATUS_CHECK_FAILS) ↔ IsTrue (some_fails ran.verdicts))) }
+    // The headline, of the words that were accepted.
+    ensures headline { IfSome result.ran (λ ran. IfSome (accepted_words (texts words.now)) (λ accepted.
+        HasHeadline (F.state files.old).told accepted result.status ran (S.state out.old) (S.state out.new))) }
+    ensures ran { IfSome (accepted_words (texts words.now)) (λ accepted.
+        IsSome result.ran ↔ (IsSome (order_of (F.state files.old).told accepted) × IsDoneStatus result.status)) }
 
-    // There is a run with the statuses 0, 1 and 6: a right one, and its report was put. Else one line was put.
-    ensures ran { IsSome result.ran ↔ IsStatusOfRun result.status }
-    ensures run { IfSome result.ran (λ ran. IsReported (named_file (texts words.now))
-        (source_of (F.told files.old) (texts words.now)) result.status ran
-        (S.written out.old) (S.written out.new) (S.faults out.old) (S.faults out.new)) }
-    ensures refused { IfNone result.ran (IsRefused (named_file (texts words.now))
-        (source_of (F.told files.old) (texts words.now))
-        (counts_of (F.faults files.old) (F.taken files.old))
-        (counts_of (F.faults files.new) (F.taken files.new)) result.status
-        (S.written out.old) (S.written out.new) (S.faults out.old) (S.faults out.new)) }
+    // What was done is written, or the line of a refusal, which has its cause.
+    ensures done { IfSome (accepted_words (texts words.now)) (λ accepted. IsDoneStatus result.status
+        → IsDoneCall (F.state files.old).told accepted result (S.state out.old) (S.state out.new)) }
+    ensures refused { IfSome (accepted_words (texts words.now)) (λ accepted. IsRefusalStatus result.status
+        → IsRefusedCall accepted (F.state files.old) (F.state files.new) result (S.state out.old) (S.state out.new)) }
+    ensures words_refused { accepted_words (texts words.now) ≡ None → AreWordsRefused result (S.state out.old) (S.state out.new) }
 
-    // What is lent: the files tell what they told, and no count fell. With wrong words the files are untouched.
-    ensures told { (file : List ℕ) → F.told files.new file ≡ F.told files.old file }
-    ensures untouched { named_file (texts words.now) ≡ None → files.new ≡ files.old }
-    ensures files_faults { F.faults files.old ≤ F.faults files.new }
-    ensures files_taken { F.taken files.old ≤ F.taken files.new }
-    ensures sink_faults { S.faults out.old ≤ S.faults out.new }
+    // The cause of each status but want of memory, which may come at any time.
+    ensures words { result.status ≡ STATUS_WORDS → accepted_words (texts words.now) ≡ None }
+    ensures read_fault { result.status ≡ STATUS_READ_FAULT → RoseBy 1 (F.state files.old).faults (F.state files.new).faults }
+    ensures input { IfSome (accepted_words (texts words.now)) (λ accepted. IsRefusedExactly (F.state files.old).told accepted result.status) }
+    ensures write_fault { result.status ≡ STATUS_WRITE_FAULT → RoseBy 1 (S.state out.old).faults (S.state out.new).faults }
+    ensures run_status { IfSome result.ran (λ ran. result.status ≢ STATUS_WRITE_FAULT → HasRunStatus result.status ran) }
+    ensures complete { IfSome (accepted_words (texts words.now)) (λ accepted. IsComplete accepted (F.state files.old) (F.state files.new)
+        result.status (S.state out.old) (S.state out.new)) }
+
+    // What is lent goes on: files tell what they told, and no count fell. With wrong words the files are untouched.
+    ensures files { GoOn (F.state files.old) (F.state files.new) }
+    ensures untouched { accepted_words (texts words.now) ≡ None → F.state files.new ≡ F.state files.old }
+    ensures sink { (S.state out.old).faults ≤ (S.state out.new).faults }
 {
     answer(alloc, words, files, out)
 }
 
-/// The same over one text, which is that of every file, and a sink that takes everything and keeps nothing: no device can
-/// fail, and each answer but want of memory has its exact cause.
+/// Does what words say that were read, as `strobe` does: the same of words in place of their texts. It returns.
+///
+/// The clause `headline` says: If a run of an accepted program returns without device fault or want of memory, its journal is
+/// one legal history of a one-thread heap, holding each mutator's steps once, in its order and to its end; every launched
+/// check has one verdict, the predicate's plain value on the heap replayed up to that launch, or Abandoned, only where the
+/// full copy pool lost a version that this evaluation reads.
+pub fn strobe_plain<F: Files, S: Sink>(
+    alloc: Global,
+    words: &Words,
+    files: &mut F,
+    out: &mut S,
+) -> Outcome
+    requires { HasFittingNumbers words.now }
+    // The headline.
+    ensures headline { IfSome result.ran (λ ran. HasHeadline (F.state files.old).told words.now result.status ran (S.state out.old) (S.state out.new)) }
+    ensures ran { IsSome result.ran ↔ (IsSome (order_of (F.state files.old).told words.now) × IsDoneStatus result.status) }
+
+    // What was done is written, or the line of a refusal, which has its cause.
+    ensures done { IsDoneStatus result.status
+        → IsDoneCall (F.state files.old).told words.now result (S.state out.old) (S.state out.new) }
+    ensures refused { IsRefusalStatus result.status
+        → IsRefusedCall words.now (F.state files.old) (F.state files.new) result (S.state out.old) (S.state out.new) }
+
+    // The cause of each status but want of memory, which may come at any time.
+    ensures words { result.status ≢ STATUS_WORDS }
+    ensures read_fault { result.status ≡ STATUS_READ_FAULT → RoseBy 1 (F.state files.old).faults (F.state files.new).faults }
+    ensures input { IsRefusedExactly (F.state files.old).told words.now result.status }
+    ensures write_fault { result.status ≡ STATUS_WRITE_FAULT → RoseBy 1 (S.state out.old).faults (S.state out.new).faults }
+    ensures run_status { IfSome result.ran (λ ran. result.status ≢ STATUS_WRITE_FAULT → HasRunStatus result.status ran) }
+    ensures complete { IsComplete words.now (F.state files.old) (F.state files.new) result.status (S.state out.old) (S.state out.new) }
+
+    // What is lent goes on: files tell what they told, and no count fell.
+    ensures files { GoOn (F.state files.old) (F.state files.new) }
+    ensures sink { (S.state out.old).faults ≤ (S.state out.new).faults }
+{
+    do_words(alloc, words, files, out)
+}
+
+/// `strobe` over one text, which is that of every file, and a sink that takes everything and keeps nothing: no device can fail,
+/// and each answer but want of memory has its exact cause. It serves every command that reads one source, or none.
 pub fn strobe_on_text<R: Threads + Wait + Sync>(
     rt: &R,
     alloc: Global,
     words: &[String],
     text: Vec<u8>,
 ) -> Outcome
-    ensures words { (result.status ≡ STATUS_WORDS) ↔ (named_file (texts words.now) ≡ None) }
-    ensures source { IsSome (named_file (texts words.now)) → IsRefusedExactly text.items result.status }
+    ensures words { result.status ≡ STATUS_WORDS → accepted_words (texts words.now) ≡ None }
+    ensures input { IfSome (accepted_words (texts words.now)) (λ accepted. IsRefusedExactly (λ _. Some text.items) accepted result.status) }
     ensures no_read_fault { result.status ≢ STATUS_READ_FAULT }
     ensures no_write_fault { result.status ≢ STATUS_WRITE_FAULT }
+    ensures ran { IfSome (accepted_words (texts words.now)) (λ accepted.
+        IsSome result.ran ↔ (IsSome (order_of (λ _. Some text.items) accepted) × IsDoneStatus result.status)) }
+    ensures run_status { IfSome result.ran (λ ran. HasRunStatus result.status ran) }
 
-    // There is a run with the statuses 0 and 1: a right one of the text, and 1 says that some check fails.
-    ensures ran { IsSome result.ran ↔ IsStatusOfRun result.status }
-    ensures right { IfSome result.ran (λ ran. IsRunOfText text.items ran) }
-    ensures check_fails { IfSome result.ran (λ ran. (result.status ≡ STATUS_CHECK_FAILS) ↔ IsTrue (some_fails ran.verdicts)) }
-
-    // With words and a source that are accepted there is a run, or there was no memory.
-    ensures accepted { IsSome (named_file (texts words.now)) → IsAccepted text.items
-        → (result.status ≡ STATUS_HOLDS) ⊎ (result.status ≡ STATUS_CHECK_FAILS) ⊎ (result.status ≡ STATUS_NO_MEMORY) }
+    // With words and a text that are accepted, the command is done, or there was no memory.
+    ensures complete { IfSome (accepted_words (texts words.now)) (λ accepted. IsInputAccepted (λ _. Some text.items) accepted
+        → IsStatusOf accepted result.status ⊎ (result.status ≡ STATUS_NO_MEMORY)) }
 {
     let mut files = SureFiles::make(text);
     strobe(rt, alloc, words, &mut files, &mut SureSink, &NoPace)
 }
 
-/// What the call does, on one thread.
+/// What `strobe` does.
 fn answer<F: Files, S: Sink>(alloc: Global, words: &[String], files: &mut F, out: &mut S) -> Outcome
-    ensures run { IfSome result.ran (λ ran. IsReported (named_file (texts words.now)) (source_of (F.told files.old) (texts words.now)) result.status ran
-        (S.written out.old) (S.written out.new) (S.faults out.old) (S.faults out.new)) }
-    ensures refused { IfNone result.ran (IsRefused (named_file (texts words.now)) (source_of (F.told files.old) (texts words.now))
-        (counts_of (F.faults files.old) (F.taken files.old))
-        (counts_of (F.faults files.new) (F.taken files.new)) result.status
-        (S.written out.old) (S.written out.new) (S.faults out.old) (S.faults out.new)) }
-    ensures told { (file : List ℕ) → F.told files.new file ≡ F.told files.old file }
-    ensures untouched { named_file (texts words.now) ≡ None → files.new ≡ files.old }
-    ensures files_faults { F.faults files.old ≤ F.faults files.new }
-    ensures files_taken { F.taken files.old ≤ F.taken files.new }
-    ensures sink_faults { S.faults out.old ≤ S.faults out.new }
+    ensures ended { IfSome (accepted_words (texts words.now)) (λ accepted. IsEnded accepted (F.state files.old) (F.state files.new) result (S.state out.old) (S.state out.new)) }
+    ensures words_refused { accepted_words (texts words.now) ≡ None → AreWordsRefused result (S.state out.old) (S.state out.new) }
+    ensures files { GoOn (F.state files.old) (F.state files.new) }
+    ensures untouched { accepted_words (texts words.now) ≡ None → F.state files.new ≡ F.state files.old }
+    ensures sink { (S.state out.old).faults ≤ (S.state out.new).faults }
 {
-    match run_words(alloc, words, files) {
-        Ok(finished) => publish(finished, out),
-        Err(refusal) => refuse(refusal, out),
+    match read_words(alloc, words) {
+        Ok(words) => do_words(alloc, &words, files, out),
+        Err(WordsError::Memory) => refuse_without_memory(out),
+        Err(WordsError::Refused) => refuse(alloc, Refusal::Words, out),
     }
 }
 
-/// Runs the source that the words name.
-fn run_words<F: Files>(alloc: Global, words: &[String], files: &mut F) -> Result<Finished, Refusal>
-    ensures named { IfOk result (λ _. IsSome (named_file (texts words.now))) }
-    ensures right { IfOk result (λ finished. HasReport (source_of (F.told files.old) (texts words.now)) finished.ran finished.report) }
-    ensures cause { IfErr result (λ refusal. HasCause (named_file (texts words.now)) (source_of (F.told files.old) (texts words.now))
-        (counts_of (F.faults files.old) (F.taken files.old))
-        (counts_of (F.faults files.new) (F.taken files.new)) refusal) }
-    ensures told { (file : List ℕ) → F.told files.new file ≡ F.told files.old file }
-    ensures untouched { named_file (texts words.now) ≡ None → files.new ≡ files.old }
-    ensures faults { F.faults files.old ≤ F.faults files.new }
-    ensures taken { F.taken files.old ≤ F.taken files.new }
+/// What is done with words that were read.
+fn do_words<F: Files, S: Sink>(alloc: Global, words: &Words, files: &mut F, out: &mut S) -> Outcome
+    requires { HasFittingNumbers words.now }
+    ensures ended { IsEnded words.now (F.state files.old) (F.state files.new) result (S.state out.old) (S.state out.new) }
+    ensures files { GoOn (F.state files.old) (F.state files.new) }
+    ensures sink { (S.state out.old).faults ≤ (S.state out.new).faults }
 {
-    match find_named_file(words) {
-        Some(name) => run_file(alloc, files, name),
-        None => Err(Refusal::Words),
+    match perform(alloc, words, files) {
+        Ok(left) => publish(left, out),
+        Err(refusal) => refuse(alloc, refusal, out),
     }
 }

@@ -1,64 +1,65 @@
-//! What is written: the lines of a report, or the one line of a refusal. Each line is put by one call.
-ghost use Rattle.std.specs.Prelude.{◌≡◌, ◌≤◌, Some, None, OnOk, OnErr};
-ghost use Rattle.st_io.specs.Counts.{RoseBy};
-ghost use Rattle.st_io.specs.Growth.{Grows, GrowsByFront};
-ghost use Rattle.st_top.specs.LineBytes.{lines_text};
-ghost use Rattle.st_top.specs.Putting.{IsPut, IsLinePut};
-ghost use Rattle.st_top.specs.Refusals.{refusal_line, refusal_status};
-ghost use Rattle.st_top.specs.Report.{joined_pieces};
+//! What is written: the output of a command, or the one line of a refusal.
+ghost use Rattle.std.specs.Prelude.{◌≡◌, ◌≤◌, ◌⊎◌, None};
+ghost use Rattle.st_top.specs.Endings.{IsToldRefusal};
+ghost use Rattle.st_top.specs.Putting.{IsWritten, IsLinePut};
+ghost use Rattle.st_top.specs.declared.errors.Refusal.TheVariants as refused;
 
-use crate::errors::Refusal;
+use crate::errors::{NO_MEMORY_LINE, Refusal};
+use crate::left::Left;
 use crate::outcomes::Outcome;
-use crate::sources::Finished;
-use crate::statuses::STATUS_WRITE_FAULT;
-use crate::tallies::run_status;
-use st_io::{Sink, SinkFault};
+use crate::putting::put_text;
+use crate::statuses::{STATUS_NO_MEMORY, STATUS_WRITE_FAULT};
+use st_io::Sink;
+use std::alloc::Global;
 
-/// Writes the report of a run.
-pub(crate) fn publish<S: Sink>(finished: Finished, out: &mut S) -> Outcome
-    ensures ran { result.ran ≡ Some finished.ran }
-    ensures put { IsPut result.status finished.ran (joined_pieces finished.report)
-        (S.written out.old) (S.written out.new) (S.faults out.old) (S.faults out.new) }
-    ensures faults { S.faults out.old ≤ S.faults out.new }
+/// Writes what a command leaves.
+pub(crate) fn publish<S: Sink>(left: Left, out: &mut S) -> Outcome
+    ensures ran { result.ran ≡ left.ran }
+    ensures written { IsWritten left.status left.output result.status (S.state out.old) (S.state out.new) }
+    ensures sink { (S.state out.old).faults ≤ (S.state out.new).faults }
 {
-    match put_lines(out, finished.report.lines()) {
-        Ok(()) => Outcome {
-            status: run_status(&finished.ran),
-            ran: Some(finished.ran),
-        },
+    let Left {
+        output,
+        status,
+        ran,
+    } = left;
+    match put_text(out, &output) {
+        Ok(()) => Outcome { status, ran },
         Err(_) => Outcome {
             status: STATUS_WRITE_FAULT,
-            ran: Some(finished.ran),
+            ran,
         },
     }
 }
 
-/// Writes the line of a refusal, which is all that a call without a run writes. Where that fails, the refusal stands all
-/// the same. The program calls it where there is no memory for the words that `strobe` takes.
-pub fn refuse<S: Sink>(refusal: Refusal, out: &mut S) -> Outcome
-    ensures ran { result.ran ≡ None }
-    ensures status { result.status ≡ refusal_status refusal }
-    ensures line { IsLinePut (refusal_line refusal) (S.written out.old) (S.written out.new) (S.faults out.old) (S.faults out.new) }
-    ensures faults { S.faults out.old ≤ S.faults out.new }
+/// Writes the line of a refusal, which is all that a call without an output writes. Where that fails, the refusal stands
+/// all the same. Where there is no memory for the line, that is the refusal.
+pub(crate) fn refuse<S: Sink>(alloc: Global, refusal: Refusal, out: &mut S) -> Outcome
+    ensures told { IsToldRefusal refusal result (S.state out.old) (S.state out.new)
+        ⊎ IsToldRefusal refused.NoMemory result (S.state out.old) (S.state out.new) }
+    ensures sink { (S.state out.old).faults ≤ (S.state out.new).faults }
 {
-    let _unheard = out.put(refusal.line());
-    Outcome {
-        status: refusal.status(),
-        ran: None,
+    match refusal.line(alloc) {
+        Ok(line) => put_line(refusal.status(), &line, out),
+        Err(_) => refuse_without_memory(out),
     }
 }
 
-/// Puts the lines one after another. Nothing is put after a put that failed.
-fn put_lines<S: Sink>(out: &mut S, lines: &[Vec<u8>]) -> Result<(), SinkFault>
-    ensures whole { OnOk result
-        (Grows (S.written out.old) (lines_text lines.now) (S.written out.new)) }
-    ensures part { OnErr result
-        (GrowsByFront (S.written out.old) (lines_text lines.now) (S.written out.new)) }
-    ensures failed { OnErr result (RoseBy 1 (S.faults out.old) (S.faults out.new)) }
-    ensures faults { S.faults out.old ≤ S.faults out.new }
+/// Writes that there is no memory. The program calls it where there is none for the words that `strobe` takes.
+pub fn refuse_without_memory<S: Sink>(out: &mut S) -> Outcome
+    ensures told { IsToldRefusal refused.NoMemory result (S.state out.old) (S.state out.new) }
+    ensures sink { (S.state out.old).faults ≤ (S.state out.new).faults }
 {
-    for line in lines {
-        out.put(line)?;
-    }
-    Ok(())
+    put_line(STATUS_NO_MEMORY, NO_MEMORY_LINE, out)
+}
+
+/// Puts the one line of a call that comes to nothing.
+fn put_line<S: Sink>(status: u8, line: &[u8], out: &mut S) -> Outcome
+    ensures status { result.status ≡ status }
+    ensures ran { result.ran ≡ None }
+    ensures line { IsLinePut line.now (S.state out.old) (S.state out.new) }
+    ensures sink { (S.state out.old).faults ≤ (S.state out.new).faults }
+{
+    let _unheard = out.put(line);
+    Outcome { status, ran: None }
 }

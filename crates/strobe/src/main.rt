@@ -5,7 +5,7 @@ ghost use Rattle.std.specs.Prelude.{◌≡◌};
 ghost use Rattle.std.specs.Process.{exit_status};
 
 use st_io::{NoPace, RealFiles, RealSink};
-use st_top::{Outcome, Refusal, refuse, strobe};
+use st_top::{Outcome, refuse_without_memory, strobe};
 use std::alloc::AllocError;
 use std::env;
 use std::process::ExitCode;
@@ -41,7 +41,7 @@ fn run<R: Runtime + AllocGlobal + Threads + Wait + Sync>(rt: &R) -> ExitCode {
             let mut files = RealFiles::make(rt);
             strobe(rt, rt.alloc(), &words, &mut files, &mut out, &NoPace)
         }
-        Err(_) => refuse(Refusal::NoMemory, &mut out),
+        Err(_) => refuse_without_memory(&mut out),
     };
     final_status(&outcome)
 }
@@ -54,7 +54,7 @@ fn main(rt: HostRuntime) -> ExitCode {
 mod tests {
     use super::*;
 
-    // The words of a test's process are not `run FILE`.
+    // The words of a test's process are no command.
     #[test]
     fn wrong_words_end_with_their_status(rt: HostRuntime) {
         assert_eq!(rt; run(&rt), ExitCode::from(2));

@@ -1,24 +1,33 @@
-use Rattle.st_top.proofs.OutcomeLemmas.{wrong_words_have_their_status, told_source_is_refused_exactly, told_source_is_named}
-use Rattle.st_top.proofs.OutcomeLemmas.{read_fault_was_counted, write_fault_was_counted, failing_check_has_its_status, runs_have_their_statuses}
-use Rattle.st_top.specs.Words.{texts}
+use Rattle.st_top.proofs.CallLemmas.{headline_of_call, run_of_call, done_of_call, refusal_of_call, input_of_call, complete_of_call}
+use Rattle.st_top.proofs.CallLemmas.{words_of_call, read_fault_of_call, write_fault_of_call, run_status_of_call}
 use Rattle.st_top.proofs.calls.strobe.Goals as goal
 
-pub returns-clause-words : goal.returns-clause-words
-returns-clause-words g c = wrong_words_have_their_status _ _ _ _ _ _ _ _ _ _ c.answer.ensures.run c.answer.ensures.refused
-
-pub returns-clause-source : goal.returns-clause-source
-returns-clause-source g c =
-    let named = told_source_is_named (g.F.Files.told c.args.files.now) (texts c.args.words.now) in
-    told_source_is_refused_exactly _ _ _ _ _ _ _ _ _ _ named c.answer.ensures.run c.answer.ensures.refused
-
-pub returns-clause-read_fault : goal.returns-clause-read_fault
-returns-clause-read_fault g c = read_fault_was_counted _ _ _ _ _ _ _ _ _ _ c.answer.ensures.run c.answer.ensures.refused
-
-pub returns-clause-write_fault : goal.returns-clause-write_fault
-returns-clause-write_fault g c = write_fault_was_counted _ _ _ _ _ _ _ _ _ _ c.answer.ensures.run c.answer.ensures.refused
-
-pub returns-clause-check_fails : goal.returns-clause-check_fails
-returns-clause-check_fails g c = failing_check_has_its_status _ _ _ _ _ _ _ _ c.answer.ensures.run
+pub returns-clause-headline : goal.returns-clause-headline
+returns-clause-headline g c = headline_of_call _ _ _ _ _ _ c.answer.ensures.ended
 
 pub returns-clause-ran : goal.returns-clause-ran
-returns-clause-ran g c = runs_have_their_statuses _ _ _ _ _ _ _ _ _ _ c.answer.ensures.run c.answer.ensures.refused
+returns-clause-ran g c = run_of_call _ _ _ _ _ _ c.answer.ensures.ended
+
+pub returns-clause-done : goal.returns-clause-done
+returns-clause-done g c = done_of_call _ _ _ _ _ _ c.answer.ensures.ended
+
+pub returns-clause-refused : goal.returns-clause-refused
+returns-clause-refused g c = refusal_of_call _ _ _ _ _ _ c.answer.ensures.ended
+
+pub returns-clause-input : goal.returns-clause-input
+returns-clause-input g c = input_of_call _ _ _ _ _ _ c.answer.ensures.ended
+
+pub returns-clause-complete : goal.returns-clause-complete
+returns-clause-complete g c = complete_of_call _ _ _ _ _ _ c.answer.ensures.ended
+
+pub returns-clause-words : goal.returns-clause-words
+returns-clause-words g c = words_of_call _ _ _ _ _ _ c.answer.ensures.ended
+
+pub returns-clause-read_fault : goal.returns-clause-read_fault
+returns-clause-read_fault g c = read_fault_of_call _ _ _ _ _ _ c.answer.ensures.ended c.answer.ensures.words_refused
+
+pub returns-clause-write_fault : goal.returns-clause-write_fault
+returns-clause-write_fault g c = write_fault_of_call _ _ _ _ _ _ c.answer.ensures.ended c.answer.ensures.words_refused
+
+pub returns-clause-run_status : goal.returns-clause-run_status
+returns-clause-run_status g c = run_status_of_call _ _ _ _ _ _ c.answer.ensures.ended c.answer.ensures.words_refused

@@ -1,26 +1,37 @@
-use Rattle.std.proofs.Common.{◌≡◌, ◌≢◌, Some, IsSome, ap, ◌∙◌, arith}
-use Rattle.st_top.specs.Sources.{source_of}
-use Rattle.st_top.specs.Words.{texts, named_file}
-use Rattle.st_top.proofs.OutcomeLemmas.{accepted_source_runs, failing_check_has_its_status_surely, run_is_of_the_text, one_text_is_the_source, text_is_refused_exactly}
+use Rattle.std.proofs.Common.{◌≡◌, ℕ, List, Some, None, IsSome, IfSome, ◌↔◌, ap, subst, arith}
+use Rattle.st_io.specs.Counts.{RoseBy}
+use Rattle.st_words.specs.Accepted.{accepted_words, texts}
+use Rattle.st_top.specs.Endings.{IsDoneStatus, IsRefusedExactly}
+use Rattle.st_top.specs.Commands.{Told}
+use Rattle.st_top.specs.Orders.{order_of}
+use Rattle.st_top.proofs.CallLemmas.{complete_on_text, run_status_on_text}
 use Rattle.st_top.proofs.calls.strobe_on_text.Goals as goal
 
-pub returns-clause-source : goal.returns-clause-source
-returns-clause-source g c = λ names.
-    let told = one_text_is_the_source c.make-files.result.text (texts c.args.words.now) names ∙ ap Some c.make-files.ensures.text in
-    text_is_refused_exactly c.args.text.items _ _ told c.strobe.ensures.source
+pub returns-clause-input : goal.returns-clause-input
+returns-clause-input g c =
+    subst (λ (text : List ℕ). IfSome (accepted_words (texts c.args.words.now)) (λ accepted. IsRefusedExactly (λ _. Some text) accepted c.strobe.result.status))
+    c.make-files.ensures.text c.strobe.ensures.input
 
-pub returns-clause-right : goal.returns-clause-right
-returns-clause-right g c =
-    let told : IsSome (named_file (texts c.args.words.now)) → source_of (λ _. Some c.make-files.result.text) (texts c.args.words.now) ≡ Some c.args.text.items
-    = λ names. one_text_is_the_source c.make-files.result.text (texts c.args.words.now) names ∙ ap Some c.make-files.ensures.text in
-    run_is_of_the_text c.args.text.items _ _ _ _ _ _ _ _ told c.strobe.ensures.run
+pub returns-clause-no_read_fault : goal.returns-clause-no_read_fault
+returns-clause-no_read_fault g c = λ five. omega (arith, c.strobe.ensures.read_fault five)
 
-pub returns-clause-check_fails : goal.returns-clause-check_fails
-returns-clause-check_fails g c = failing_check_has_its_status_surely _ _ (λ six. omega (arith, c.strobe.ensures.write_fault six)) c.strobe.ensures.check_fails
+pub returns-clause-no_write_fault : goal.returns-clause-no_write_fault
+returns-clause-no_write_fault g c = λ six. omega (arith, c.strobe.ensures.write_fault six)
 
-pub returns-clause-accepted : goal.returns-clause-accepted
-returns-clause-accepted g c = λ names accepted.
-    let told = one_text_is_the_source c.make-files.result.text (texts c.args.words.now) names ∙ ap Some c.make-files.ensures.text in
-    let not_five : c.strobe.result.status ≢ 5 = λ five. omega (arith, c.strobe.ensures.read_fault five) in
-    let not_six : c.strobe.result.status ≢ 6 = λ six. omega (arith, c.strobe.ensures.write_fault six) in
-    accepted_source_runs _ _ c.args.text.items _ _ _ _ _ _ _ _ c.strobe.ensures.run c.strobe.ensures.refused told not_five not_six names accepted
+pub returns-clause-ran : goal.returns-clause-ran
+returns-clause-ran g c =
+    subst (λ (text : List ℕ). IfSome (accepted_words (texts c.args.words.now)) (λ accepted.
+    IsSome c.strobe.result.ran ↔ (IsSome (order_of (λ _. Some text) accepted) × IsDoneStatus c.strobe.result.status)))
+    c.make-files.ensures.text c.strobe.ensures.ran
+
+pub returns-clause-run_status : goal.returns-clause-run_status
+returns-clause-run_status g c = run_status_on_text c.strobe.result.status c.strobe.result.ran (λ six. omega (arith, c.strobe.ensures.write_fault six)) c.strobe.ensures.run_status
+
+pub returns-clause-complete : goal.returns-clause-complete
+returns-clause-complete g c =
+    complete_on_text (accepted_words (texts c.args.words.now)) c.args.text.items
+    (record { told = λ (file : List ℕ). Some c.make-files.result.text; faults = 0; taken = c.make-files.result.taken })
+    (record { told = λ (file : List ℕ). Some c.strobe.new.files.text; faults = 0; taken = c.strobe.new.files.taken })
+    c.strobe.result.status (record { written = None; faults = 0 }) (record { written = None; faults = 0 })
+    (ap {B = Told} (λ (text : List ℕ). λ (file : List ℕ). Some text) c.make-files.ensures.text) (λ (rose : RoseBy 1 0 0). omega (arith, rose)) (λ (rose : RoseBy 1 0 0). omega (arith, rose))
+    c.strobe.ensures.complete

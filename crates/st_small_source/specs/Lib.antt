@@ -1,9 +1,0 @@
-pub mod Built
-pub mod Grammar
-pub mod Numbering
-pub mod Reading
-pub mod Small
-pub mod Sound
-pub mod Source
-pub mod Symbols
-pub mod Views

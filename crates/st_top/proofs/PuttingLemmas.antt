@@ -1,0 +1,57 @@
+-- A text that is put line by line.
+use Rattle.std.proofs.Common.{◌≡◌, ℕ, List, [], ◌∷◌, ◌++◌, length, Option, refl, sym, ap, ◌∙◌, subst, append_assoc, append-nil, arith}
+use Rattle.std.proofs.Common.{Result, Ok, Err, OnOk, OnErr}
+use Rattle.st_io.specs.Counts.{RoseBy}
+use Rattle.st_io.specs.Growth.{Grows, GrowsByFront}
+use Rattle.st_io.specs.States.{SinkState}
+use Rattle.st_io.specs.declared.errors.SinkFault.{SinkFault}
+use Rattle.st_io.proofs.GrowthLemmas.{nothing_is_growth_by_nothing, growths_add_up, growth_stopped_within_a_piece, growth_is_growth_by_a_front}
+use Rattle.st_top.specs.Putting.{IsLinePut}
+
+-- all of the text but the rest was put
+pub record HasPut (before : Option (List ℕ)) (text rest : List ℕ) (now : Option (List ℕ)) : Type 0 where
+  pub front : List ℕ
+  pub whole : text ≡ front ++ rest
+  pub grew : Grows before front now
+
+pub nothing_is_put : (before : Option (List ℕ)) (text : List ℕ) → HasPut before text text before
+nothing_is_put before text = record { front = []; whole = refl; grew = nothing_is_growth_by_nothing before }
+
+pub one_line_more_is_put :
+    {before between now : Option (List ℕ)} {text rest : List ℕ} (line more : List ℕ)
+    → HasPut before text rest between
+    → rest ≡ line ++ more
+    → Grows between line now
+    → HasPut before text more now
+one_line_more_is_put {before} {between} {now} {text} {rest} line more put split grew = record {
+  front = put.front ++ line;
+  whole = put.whole ∙ ap (λ (left : List ℕ). put.front ++ left) split ∙ sym (append_assoc put.front line more);
+  grew = growths_add_up before between now put.front line put.grew grew;
+}
+
+nothing_is_left : (rest : List ℕ) → length rest ≡ 0 → rest ≡ []
+nothing_is_left [] none = refl
+nothing_is_left (byte ∷ rest) none = absurd (omega (arith, none))
+
+pub all_is_put : {before now : Option (List ℕ)} {text : List ℕ} (rest : List ℕ) → HasPut before text rest now → length rest ≡ 0 → Grows before text now
+all_is_put {before} {now} {text} rest put none =
+    let all : text ≡ put.front = put.whole ∙ ap (λ (left : List ℕ). put.front ++ left) (nothing_is_left rest none) ∙ append-nil put.front in
+    subst (λ (front : List ℕ). Grows before front now) (sym all) put.grew
+
+pub put_stopped_in_a_line :
+    {before between now : Option (List ℕ)} {text rest : List ℕ} (line more : List ℕ)
+    → HasPut before text rest between
+    → rest ≡ line ++ more
+    → GrowsByFront between line now
+    → GrowsByFront before text now
+put_stopped_in_a_line {before} {between} {now} {text} {rest} line more put split cut =
+    growth_stopped_within_a_piece more (put.whole ∙ ap (λ (left : List ℕ). put.front ++ left) split) put.grew cut
+
+-- a line that was put whole, or stopped
+pub put_line_is_put : (result : Result (Unit {0}) SinkFault) (line : List ℕ) (before now : SinkState)
+    → OnOk result (Grows before.written line now.written)
+    → OnErr result (GrowsByFront before.written line now.written)
+    → OnErr result (RoseBy 1 before.faults now.faults)
+    → IsLinePut line before now
+put_line_is_put (Ok done) line before now grew cut rose = record { part = growth_is_growth_by_a_front before.written now.written line grew; whole = λ no_fault. grew }
+put_line_is_put (Err fault) line before now grew cut rose = record { part = cut; whole = λ no_fault. absurd (no_fault rose) }

@@ -1,0 +1,8 @@
+use Rattle.std.proofs.Common.{◌∙◌}
+use Rattle.st_top.proofs.commands.run_demo.Goals as goal
+
+pub returns-in-Ok-clause-done : goal.returns-in-Ok-clause-done
+returns-in-Ok-clause-done c = c.in_ok-run_as_demo-in-Ok.ensures c.args.n (rw (c.deref.ensures.value ∙ c.in_ok-text.ensures) at c.in-Ok.ensures.accepted)
+
+pub returns-clause-cause : goal.returns-clause-cause
+returns-clause-cause c = rw (c.deref.ensures.value ∙ c.in_ok-text.ensures) at c.in-Err.ensures.cause

@@ -1,0 +1,32 @@
+use Rattle.std.proofs.Common.{◌≡◌, ℕ, List, Err}
+use Rattle.st_top.specs.Deeds.{IsJournalOf}
+use Rattle.st_top.proofs.ReadingLemmas.{each_ok, each_err, holds_of_told, told_journal_has_its_cause, too_long_is_longer}
+use Rattle.st_top.proofs.journals.read_journal.Goals as goal
+
+pub returns-in-Ok-clause-read : goal.returns-in-Ok-clause-read
+returns-in-Ok-clause-read g c =
+    let read = rw c.deref.ensures.value at c.parse_journal.ensures.read in
+    each_ok c.parse_journal.result _ _ (λ file h. holds_of_told _ _ (λ (text : List ℕ). IsJournalOf text file) c.in-Ok.ensures.whole h) read
+
+pub returns-in-Ok-clause-cause : goal.returns-in-Ok-clause-cause
+returns-in-Ok-clause-cause g c =
+    let cause = rw c.deref.ensures.value at c.parse_journal.ensures.cause in
+    each_err c.parse_journal.result _ _ (λ refusal h. told_journal_has_its_cause _ c.read_whole.new.into.items _ _ refusal c.in-Ok.ensures.whole h) cause
+
+pub returns-in-Ok-clause-files : goal.returns-in-Ok-clause-files
+returns-in-Ok-clause-files g c = record { told = c.read_whole.ensures.files; faults = c.read_whole.ensures.faults; taken = c.read_whole.ensures.taken }
+
+pub returns-in-Err-Memory-clause-files : goal.returns-in-Err-Memory-clause-files
+returns-in-Err-Memory-clause-files g c = record { told = c.read_whole.ensures.files; faults = c.read_whole.ensures.faults; taken = c.read_whole.ensures.taken }
+
+pub returns-in-Err-Failed-clause-files : goal.returns-in-Err-Failed-clause-files
+returns-in-Err-Failed-clause-files g c = record { told = c.read_whole.ensures.files; faults = c.read_whole.ensures.faults; taken = c.read_whole.ensures.taken }
+
+pub returns-clause-files : goal.returns-clause-files
+returns-clause-files g c = record { told = c.read_whole.ensures.files; faults = c.read_whole.ensures.faults; taken = c.read_whole.ensures.taken }
+
+pub returns-in-Err-Failed-clause-cause : goal.returns-in-Err-Failed-clause-cause
+returns-in-Err-Failed-clause-cause g c = c.read_whole.ensures.failed (cc)
+
+pub returns-clause-cause : goal.returns-clause-cause
+returns-clause-cause g c = too_long_is_longer _ _ c.read_whole.result _ _ c.read_whole.ensures.longer (c.read_whole.ensures.too_long (cc)) (cc)
