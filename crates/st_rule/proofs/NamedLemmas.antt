@@ -1,13 +1,12 @@
 -- A seat is of the named table exactly where it is of the table that has the name.
 use Rattle.std.proofs.Common.{◌≡◌, ◌∙◌, Option, Some, ap, sym}
-use Rattle.std.specs.Prelude.{option_map}
 use Rattle.atomic_table.specs.Seated.{TableId}
 use Rattle.st_events.specs.declared.limits.Sizes.{Sizes}
 use Rattle.st_events.specs.Shape.{ShapeLists}
 use Rattle.st_rule.specs.declared.tables.Shared.{Shared}
 use Rattle.st_rule.specs.declared.views.Terms.{Terms}
 use Rattle.st_rule.specs.Named.{IsNamedTable, IsNamedSeat, terms_named}
-use Rattle.st_rule.specs.Seats.{IsSeatOf, IsSameSeat, terms_of, judge_of, sizes_of}
+use Rattle.st_rule.specs.Seats.{IsSeatOf, IsSameSeat, terms_of, judge_of}
 use Rattle.st_rule.specs.SeatValue.{SeatValue}
 
 terms_is : (a b : Terms) → Some a ≡ Some b → a ≡ b

@@ -1,5 +1,5 @@
 -- Tables by name.
-use Rattle.std.specs.Prelude.{◌≡◌, ℕ, [], Option, Some, option_map}
+use Rattle.std.specs.Prelude.{◌≡◌, [], Option, Some, option_map}
 use Rattle.atomic_table.specs.Seated.{TableId}
 use Rattle.st_events.specs.declared.limits.Sizes.{Sizes}
 use Rattle.st_events.specs.Shape.{ShapeLists}
