@@ -4,7 +4,7 @@ use Rattle.st_events.specs.Terms.{RanLists}
 use Rattle.st_io.specs.Counts.{RoseBy}
 use Rattle.st_io.specs.States.{FilesState, SinkState}
 use Rattle.st_top.specs.Commands.{Told, IsInputAccepted, IsInputTold}
-use Rattle.st_top.specs.Endings.{IsDoneCall, IsRefusedCall, IsToldRefusal, IsEnded, IsDoneStatus, IsRefusalStatus, AreWordsRefused, HasHeadline, HasRunStatus, IsRefusedExactly, IsStatusOf, IsComplete}
+use Rattle.st_top.specs.Endings.{IsDoneCall, IsRefusedCall, IsEnded, IsDoneStatus, IsRefusalStatus, AreWordsRefused, HasHeadline, HasRunStatus, IsRefusedExactly, IsStatusOf, IsComplete}
 use Rattle.st_top.specs.Orders.{order_of}
 use Rattle.st_top.specs.declared.outcomes.Outcome.{Outcome}
 use Rattle.st_words.specs.declared.words.Words.{Words}

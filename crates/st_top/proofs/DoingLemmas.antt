@@ -1,10 +1,8 @@
 -- From what was made of a program to what is left of a command.
-use Rattle.std.proofs.Common.{◌≡◌, ◌≢◌, ℕ, ◌≤◌, ◌<◌, ◌^◌, List, length, Option, Some, None, IfSome, refl, sym, ap, ◌∙◌, subst}
+use Rattle.std.proofs.Common.{◌≡◌, ℕ, List, Option, Some, None, IfSome, refl, sym, subst}
 use Rattle.std.specs.List.{All}
 use Rattle.st_ast.specs.declared.declarations.Program.{Program}
 use Rattle.st_audit.specs.declared.findings.Finding.{Finding}
-use Rattle.st_audit.specs.declared.findings.Finding.TheVariants as found
-use Rattle.st_audit.specs.Findings.{IsRightJournal, IsFinding}
 use Rattle.st_events.specs.declared.limits.Sizes.{Sizes}
 use Rattle.st_events.specs.Terms.{RanLists, ShapeLists, AreWithinLimits, IsWithinLimits}
 use Rattle.st_gen.specs.Source.{source_text}

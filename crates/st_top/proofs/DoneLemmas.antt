@@ -1,5 +1,5 @@
 -- What a command that was done comes to: its status, and its run.
-use Rattle.std.proofs.Common.{◌≡◌, ◌≢◌, ℕ, ◌⊎◌, ◌↔◌, List, Bool, true, false, Option, Some, None, IsSome, IfSome, IsTrue, IsFalse, if◌then◌else◌}
+use Rattle.std.proofs.Common.{◌≡◌, ℕ, ◌⊎◌, ◌↔◌, Bool, true, false, Option, Some, None, IsSome, IfSome, IsTrue, IsFalse, if◌then◌else◌}
 use Rattle.std.proofs.Common.{inl, inr, refl, sym, ap, ◌∙◌, subst, arith}
 use Rattle.std.specs.List.{list_any}
 use Rattle.st_audit.specs.declared.findings.Finding.{Finding}
@@ -9,7 +9,6 @@ use Rattle.st_report.specs.Status.{run_status, is_unfinished, is_fault, is_undec
 use Rattle.st_top.specs.Commands.{Told, IsDone}
 use Rattle.st_top.specs.Deeds.{Left, IsRunAs}
 use Rattle.st_top.specs.Endings.{IsRunStatus, IsStatusOf, IsDoneStatus, HasHeadline, HasRunStatus, IsDoneCall}
-use Rattle.st_top.specs.Headline.{IsHeadline}
 use Rattle.st_top.specs.Orders.{Order, order_of, run_order, demo_order}
 use Rattle.st_top.specs.Outputs.{audit_status}
 use Rattle.st_top.specs.Putting.{IsWritten}

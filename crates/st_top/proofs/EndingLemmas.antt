@@ -1,10 +1,9 @@
 -- From how a call ended to what its status tells.
-use Rattle.std.proofs.Common.{◌≡◌, ◌≢◌, ℕ, ◌⊎◌, ◌↔◌, List, Option, Some, None, IsSome, IfSome, inl, inr, refl, sym, ap, ◌∙◌, subst, arith}
+use Rattle.std.proofs.Common.{◌≡◌, ◌≢◌, ℕ, ◌⊎◌, ◌↔◌, Option, Some, None, IsSome, IfSome, inl, inr, refl, sym, ◌∙◌, subst, arith}
 use Rattle.st_events.specs.Terms.{RanLists}
 use Rattle.st_io.specs.Counts.{RoseBy}
 use Rattle.st_io.specs.States.{FilesState, SinkState, GoOn}
-use Rattle.st_top.specs.Commands.{Told, IsDone, HasCause, IsInputAccepted, IsInputTold}
-use Rattle.st_top.specs.Deeds.{Left}
+use Rattle.st_top.specs.Commands.{Told, HasCause}
 use Rattle.st_top.specs.Endings.{IsDoneCall, IsRefusedCall, IsToldRefusal, IsEnded, IsDoneStatus, IsRefusalStatus, HasHeadline, HasRunStatus, IsRefusedExactly, IsStatusOf, IsComplete}
 use Rattle.st_top.specs.Orders.{order_of}
 use Rattle.st_top.specs.Refusals.{refusal_status}

@@ -1,5 +1,5 @@
 -- Which inputs are refused.
-use Rattle.std.proofs.Common.{◌≡◌, ◌≢◌, ℕ, ◌⊎◌, ◌<◌, ◌≤◌, List, length, Option, Some, None, IsSome, IfSome, inl, inr, ap, arith}
+use Rattle.std.proofs.Common.{◌≡◌, ℕ, ◌<◌, ◌≤◌, List, length, Option, Some, None, IsSome, IfSome, inl, inr, ap, arith}
 use Rattle.st_gen.specs.Source.{source_text}
 use Rattle.st_io.specs.States.{FilesState}
 use Rattle.st_journal.specs.Format.{FileLists, IsFile}

@@ -1,12 +1,13 @@
 -- A text that is put line by line.
 use Rattle.std.proofs.Common.{◌≡◌, ℕ, List, [], ◌∷◌, ◌++◌, length, Option, refl, sym, ap, ◌∙◌, subst, append_assoc, append-nil, arith}
-use Rattle.std.proofs.Common.{Result, Ok, Err, OnOk, OnErr}
+use Rattle.std.proofs.Common.{Result, Ok, Err, OnOk, OnErr, inl, inr}
 use Rattle.st_io.specs.Counts.{RoseBy}
 use Rattle.st_io.specs.Growth.{Grows, GrowsByFront}
 use Rattle.st_io.specs.States.{SinkState}
 use Rattle.st_io.specs.declared.errors.SinkFault.{SinkFault}
 use Rattle.st_io.proofs.GrowthLemmas.{nothing_is_growth_by_nothing, growths_add_up, growth_stopped_within_a_piece, growth_is_growth_by_a_front}
-use Rattle.st_top.specs.Putting.{IsLinePut}
+use Rattle.st_top.specs.Putting.{IsLinePut, IsWritten}
+use Rattle.st_top.specs.declared.statuses.TheConstants.{STATUS_WRITE_FAULT}
 
 -- all of the text but the rest was put
 pub record HasPut (before : Option (List ℕ)) (text rest : List ℕ) (now : Option (List ℕ)) : Type 0 where
@@ -55,3 +56,15 @@ pub put_line_is_put : (result : Result (Unit {0}) SinkFault) (line : List ℕ) (
     → IsLinePut line before now
 put_line_is_put (Ok done) line before now grew cut rose = record { part = growth_is_growth_by_a_front before.written now.written line grew; whole = λ no_fault. grew }
 put_line_is_put (Err fault) line before now grew cut rose = record { part = cut; whole = λ no_fault. absurd (no_fault rose) }
+
+-- a text that was put, with the status of that
+pub put_text_is_written : (result : Result (Unit {0}) SinkFault) (own : ℕ) (text : List ℕ) (status : ℕ) (before now : SinkState)
+    → OnOk result (Grows before.written text now.written)
+    → OnErr result (GrowsByFront before.written text now.written)
+    → OnErr result (RoseBy 1 before.faults now.faults)
+    → OnOk result (status ≡ own)
+    → OnErr result (status ≡ STATUS_WRITE_FAULT)
+    → IsWritten own text status before now
+put_text_is_written (Ok done) own text status before now grew cut rose own_status fault_status = inl (record { as_own = own_status; written = grew })
+put_text_is_written (Err fault) own text status before now grew cut rose own_status fault_status =
+    inr (record { as_fault = fault_status; written = cut; faults = rose })

@@ -1,6 +1,5 @@
 -- What was read is what was told: from the text of a file, as it was read, to the cause of a refusal and to what was accepted.
-use Rattle.std.proofs.Common.{◌≡◌, ◌≢◌, ℕ, ◌⊎◌, ◌↔◌, ◌<◌, ◌≤◌, ◌+◌, List, length, Option, Some, None, Result, Ok, Err, IfOk, IfErr, IfSome, inl, inr, sym, subst, ◌∙◌, arith}
-use Rattle.st_ast.specs.declared.declarations.Program.{Program}
+use Rattle.std.proofs.Common.{◌≡◌, ◌≢◌, ℕ, ◌⊎◌, ◌↔◌, ◌<◌, ◌+◌, List, length, Option, Some, None, Result, Ok, Err, IfOk, IfErr, IfSome, inl, inr, subst}
 use Rattle.st_io.specs.Counts.{RoseBy}
 use Rattle.st_io.specs.States.{FilesState}
 use Rattle.st_io.specs.declared.errors.FilesFault.{FilesFault}
@@ -8,9 +7,7 @@ use Rattle.st_io.specs.declared.errors.FilesFault.TheVariants.{TooLong, Failed}
 use Rattle.st_journal.specs.Format.{FileLists, IsFile, journal_text}
 use Rattle.st_journal.specs.declared.errors.JournalError.{JournalError}
 use Rattle.st_journal.specs.declared.errors.JournalError.TheVariants as journal
-use Rattle.st_source.specs.Accepted.{IsSourceOf}
 use Rattle.st_top.specs.Causes.{IsSourceCause, IsJournalCause, IsTextCause, IsJournalTextCause, IsJournalText, IsLonger, IsNoSource}
-use Rattle.st_top.specs.Deeds.{IsJournalOf}
 use Rattle.st_top.specs.declared.errors.Refusal.{Refusal}
 use Rattle.st_top.specs.declared.errors.Refusal.TheVariants.{Words, NoMemory, ReadFault, SourceTooLong, Source, JournalTooLong, JournalLine, JournalVersion}
 

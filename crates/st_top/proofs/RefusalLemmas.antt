@@ -1,13 +1,10 @@
 -- Which status a refusal has, and which cause.
-use Rattle.std.proofs.Common.{◌≡◌, ◌≢◌, ℕ, ◌⊎◌, ◌<◌, ◌≤◌, List, length, Option, Some, None, IsSome, IfSome, inl, inr, refl, arith, subst, ◌∙◌}
-use Rattle.st_gen.specs.Source.{source_text}
+use Rattle.std.proofs.Common.{◌≡◌, ℕ, ◌⊎◌, ◌<◌, List, length, Option, IfSome, inl, inr, refl, arith, subst, ◌∙◌}
 use Rattle.st_io.specs.Counts.{RoseBy}
 use Rattle.st_io.specs.States.{FilesState, GoOn}
-use Rattle.st_journal.specs.Format.{FileLists, IsFile}
-use Rattle.st_source.specs.Accepted.{IsAccepted}
-use Rattle.st_top.specs.Causes.{IsSourceCause, IsJournalCause, IsTextCause, IsJournalTextCause, IsJournalText, IsLonger, IsNoSource, IsBadAt, IsOfOtherVersion}
-use Rattle.st_top.specs.Commands.{HasCause, IsInputAccepted, IsInputTold}
-use Rattle.st_top.specs.Endings.{IsRefusalStatus, IsDoneStatus}
+use Rattle.st_top.specs.Causes.{IsJournalCause, IsBadAt, IsOfOtherVersion}
+use Rattle.st_top.specs.Commands.{HasCause}
+use Rattle.st_top.specs.Endings.{IsDoneStatus}
 use Rattle.st_top.specs.Refusals.{refusal_status}
 use Rattle.st_top.specs.declared.errors.Refusal.{Refusal}
 use Rattle.st_top.specs.declared.errors.Refusal.TheVariants.{Words, NoMemory, ReadFault, SourceTooLong, Source, JournalTooLong, JournalLine, JournalVersion}

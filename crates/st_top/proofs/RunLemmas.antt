@@ -1,7 +1,7 @@
 -- What is left of a scheduled run has a journal text: its arguments are used as a text tells them, and its events and verdicts are few.
-use Rattle.std.proofs.Common.{◌≡◌, ℕ, ◌+◌, ◌*◌, ◌<◌, ◌≤◌, ◌==◌, ◌&&◌, ◌^◌, Bool, true, List, [], ◌∷◌, length, map, drop, Option, Some, None, slice_get, refl, sym, ap, ◌∙◌, subst, arith}
+use Rattle.std.proofs.Common.{◌≡◌, ℕ, ◌*◌, ◌<◌, ◌≤◌, ◌==◌, ◌&&◌, ◌^◌, true, List, [], ◌∷◌, length, drop, Option, Some, None, slice_get, refl, sym, subst, arith}
 use Rattle.std.proofs.Common.{length-append}
-use Rattle.std.specs.List.{All, list_all, range_with_len}
+use Rattle.std.specs.List.{All, list_all}
 use Rattle.std.proofs.lemmas.List.{length-map}
 use Rattle.std.proofs.lemmas.List.Elements.{All-get_or, All-cons}
 use Rattle.std.proofs.lemmas.List.FromFn.{length-map-range_with_len}
@@ -21,7 +21,6 @@ use Rattle.st_events.proofs.LegalEvents.{is_same, legal_launch}
 use Rattle.st_journal.specs.Format.{HasUsedArgs, HasUsedWords}
 use Rattle.st_program.specs.Terms.{Program}
 use Rattle.st_program.specs.WellFormed.{IsWellFormed}
-use Rattle.st_schedule.specs.Agents.{Agent}
 use Rattle.st_schedule.specs.Runs.{ComesTo, is_over, by_turn, verdict_of, ran_of, scheduled_run}
 use Rattle.st_schedule.specs.SoundStates.{IsSoundState}
 use Rattle.st_schedule.specs.States.{State, first_state}
@@ -30,7 +29,6 @@ use Rattle.st_schedule.proofs.AgentLemmas.{chosen_is_ready}
 use Rattle.st_schedule.proofs.EndLemmas.{runs_come_to_one_end}
 use Rattle.st_schedule.proofs.RoomLemmas.{sound_state_has_room}
 use Rattle.st_schedule.proofs.SoundLemmas.{first_is_sound, turn_keeps_sound}
-use Rattle.st_threads.specs.Right.{IsRightRun}
 
 -- ---- arguments
 

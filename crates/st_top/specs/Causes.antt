@@ -1,5 +1,5 @@
 -- Why a file is refused.
-use Rattle.std.specs.Prelude.{◌≡◌, ℕ, ◌+◌, ◌<◌, List, length, Option, IfSome}
+use Rattle.std.specs.Prelude.{ℕ, ◌+◌, ◌<◌, List, length, Option, IfSome}
 use Rattle.st_io.specs.Counts.{RoseBy}
 use Rattle.st_io.specs.States.{FilesState}
 use Rattle.st_journal.specs.Format.{FileLists, IsFile}
@@ -10,7 +10,7 @@ use Rattle.st_source.specs.Refused.{IsRefusedFor}
 use Rattle.st_source.specs.declared.errors.SourceError.{SourceError}
 use Rattle.st_top.specs.Deeds.{IsJournalOf}
 use Rattle.st_top.specs.declared.errors.Refusal.{Refusal}
-use Rattle.st_top.specs.declared.errors.Refusal.TheVariants.{Words, NoMemory, ReadFault, SourceTooLong, Source, JournalTooLong, JournalLine, JournalVersion}
+use Rattle.st_top.specs.declared.errors.Refusal.TheVariants.{NoMemory, ReadFault, SourceTooLong, Source, JournalTooLong, JournalLine, JournalVersion}
 use Rattle.st_top.specs.declared.limits.TheConstants.{MOST_JOURNAL_BYTES}
 
 -- a journal text that is read, of some file

@@ -1,5 +1,5 @@
 -- The commands, a row each: what is left of one that was done, why one comes to nothing, and when all that it reads is accepted.
-use Rattle.std.specs.Prelude.{◌≡◌, ℕ, ◌⊎◌, List, Option, Some, IsSome, IfSome}
+use Rattle.std.specs.Prelude.{◌≡◌, ℕ, ◌⊎◌, List, Option, IsSome, IfSome}
 use Rattle.st_gen.specs.Source.{source_text}
 use Rattle.st_io.specs.States.{FilesState}
 use Rattle.st_source.specs.Accepted.{IsAccepted}

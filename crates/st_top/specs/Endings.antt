@@ -15,7 +15,7 @@ use Rattle.st_top.specs.Refusals.{refusal_line, refusal_status}
 use Rattle.st_top.specs.declared.errors.Refusal.{Refusal}
 use Rattle.st_top.specs.declared.errors.Refusal.TheVariants as refusal
 use Rattle.st_top.specs.declared.outcomes.Outcome.{Outcome}
-use Rattle.st_top.specs.declared.statuses.TheConstants.{STATUS_WORDS, STATUS_INPUT, STATUS_READ_FAULT, STATUS_WRITE_FAULT, STATUS_NO_MEMORY}
+use Rattle.st_top.specs.declared.statuses.TheConstants.{STATUS_INPUT, STATUS_READ_FAULT, STATUS_WRITE_FAULT, STATUS_NO_MEMORY}
 use Rattle.st_words.specs.declared.words.Words.{Words}
 use Rattle.st_words.specs.declared.words.Words.TheVariants as words
 

@@ -1,10 +1,7 @@
 -- Why a call can come to nothing: the status and the line of each refusal.
 use Rattle.std.specs.Prelude.{ℕ, List, ◌++◌, codes}
 use Rattle.std.specs.Fmt.{decimal}
-use Rattle.st_io.specs.declared.errors.FilesFault.{FilesFault}
-use Rattle.st_io.specs.declared.errors.FilesFault.TheVariants as files
 use Rattle.st_source.specs.Lines.{refusal_line as source_line}
-use Rattle.st_source.specs.declared.errors.SourceError.TheVariants as source
 use Rattle.st_top.specs.declared.errors.Refusal.{Refusal}
 use Rattle.st_top.specs.declared.errors.Refusal.TheVariants.{Words, NoMemory, ReadFault, SourceTooLong, Source, JournalTooLong, JournalLine, JournalVersion}
 use Rattle.st_top.specs.declared.statuses.TheConstants.{STATUS_WORDS, STATUS_INPUT, STATUS_READ_FAULT, STATUS_NO_MEMORY}

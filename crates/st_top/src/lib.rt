@@ -15,6 +15,8 @@ mod putting;
 mod runs;
 mod sources;
 mod statuses;
+#[cfg(test)]
+mod tests;
 mod writing;
 
 pub use calls::{strobe, strobe_on_text, strobe_plain};

@@ -1,5 +1,5 @@
 //! Runs, as the words ask for them.
-ghost use Rattle.std.specs.Prelude.{◌≡◌, ◌<◌, ◌^◌, ℕ, List, Option, length, IfOk, IfSome};
+ghost use Rattle.std.specs.Prelude.{◌≡◌, ◌<◌, ◌^◌, ℕ, List, Option, length, unwrap_or, IfOk, IfSome};
 ghost use Rattle.std.specs.List.{All};
 ghost use Rattle.st_events.specs.Sizes.{AreWithinLimits};
 ghost use Rattle.st_journal.specs.Format.{HasUsedArgs};
@@ -33,7 +33,7 @@ pub(crate) fn run_as_asked(alloc: Global, typed: &Typed, call: &RunWords) -> Res
         → IsRunAs (run_order source call.now) left) }
 {
     let sizes = choose_sizes(call, typed);
-    let seed = call.schedule.unwrap_or(USUAL_SEED);
+    let seed = choose_seed(call);
     let ran = run_program(alloc, typed, &sizes, seed)?;
     let output = make_output(alloc, call.form, typed, &sizes, &ran)?;
     let status = run_status(&ran);
@@ -59,6 +59,13 @@ pub(crate) fn run_as_demo(alloc: Global, typed: &Typed) -> Result<Left, NoMemory
         status,
         ran: Some(ran),
     })
+}
+
+/// The seed that the words give, or the usual one.
+fn choose_seed(call: &RunWords) -> u64
+    ensures { result ≡ unwrap_or call.now.schedule USUAL_SEED }
+{
+    call.schedule.unwrap_or(USUAL_SEED)
 }
 
 /// The sizes that the words give, with a mutator for each thread.

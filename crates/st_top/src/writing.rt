@@ -1,5 +1,5 @@
 //! What is written: the output of a command, or the one line of a refusal.
-ghost use Rattle.std.specs.Prelude.{◌≡◌, ◌≤◌, ◌⊎◌, None};
+ghost use Rattle.std.specs.Prelude.{◌≡◌, ◌≤◌, ◌⊎◌, None, OnOk, OnErr};
 ghost use Rattle.st_top.specs.Endings.{IsToldRefusal};
 ghost use Rattle.st_top.specs.Putting.{IsWritten, IsLinePut};
 ghost use Rattle.st_top.specs.declared.errors.Refusal.TheVariants as refused;
@@ -9,7 +9,7 @@ use crate::left::Left;
 use crate::outcomes::Outcome;
 use crate::putting::put_text;
 use crate::statuses::{STATUS_NO_MEMORY, STATUS_WRITE_FAULT};
-use st_io::Sink;
+use st_io::{Sink, SinkFault};
 use std::alloc::Global;
 
 /// Writes what a command leaves.
@@ -23,12 +23,21 @@ pub(crate) fn publish<S: Sink>(left: Left, out: &mut S) -> Outcome
         status,
         ran,
     } = left;
-    match put_text(out, &output) {
-        Ok(()) => Outcome { status, ran },
-        Err(_) => Outcome {
-            status: STATUS_WRITE_FAULT,
-            ran,
-        },
+    let put = put_text(out, &output);
+    Outcome {
+        status: status_of_put(put, status),
+        ran,
+    }
+}
+
+/// The status of a call whose output was put: its own, or that a write failed.
+fn status_of_put(put: Result<(), SinkFault>, own: u8) -> u8
+    ensures whole { OnOk put (result ≡ own) }
+    ensures cut { OnErr put (result ≡ STATUS_WRITE_FAULT) }
+{
+    match put {
+        Ok(()) => own,
+        Err(SinkFault::Failed) => STATUS_WRITE_FAULT,
     }
 }
 

@@ -1,4 +1,4 @@
-use Rattle.std.proofs.Common.{◌≡◌, ℕ, List, Some, None, IsSome, IfSome, ◌↔◌, ap, subst, arith}
+use Rattle.std.proofs.Common.{ℕ, List, Some, None, IsSome, IfSome, ◌↔◌, ap, subst, arith}
 use Rattle.st_io.specs.Counts.{RoseBy}
 use Rattle.st_words.specs.Accepted.{accepted_words, texts}
 use Rattle.st_top.specs.Endings.{IsDoneStatus, IsRefusedExactly}

@@ -1,4 +1,4 @@
-use Rattle.std.proofs.Common.{◌≡◌, ◌≢◌, Some, None, refl, subst, rules}
+use Rattle.std.proofs.Common.{◌≢◌, Some, None, refl, subst, rules}
 use Rattle.st_audit.specs.declared.findings.Finding.TheVariants as found
 use Rattle.st_audit.specs.Findings.{IsRightJournal, IsFinding}
 use Rattle.st_events.specs.Terms.{ShapeLists}

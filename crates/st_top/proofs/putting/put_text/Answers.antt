@@ -1,6 +1,5 @@
 use Rattle.std.proofs.Common.{◌≡◌, length, arith, rules}
 use Rattle.std.proofs.lemmas.Bool.Decides.{nat_tests}
-use Rattle.std.proofs.lemmas.Grind.{common_steps}
 use Rattle.st_top.proofs.PuttingLemmas.{nothing_is_put, one_line_more_is_put, all_is_put, put_stopped_in_a_line}
 use Rattle.st_top.proofs.putting.put_text.Goals as goal
 
@@ -20,5 +19,5 @@ loop-rest-preserved g c = record {
 
 pub returns-clause-whole : goal.returns-clause-whole
 returns-clause-whole g c =
-    let none : length c.loop-rest.rest.now ≡ 0 = grind (arith, nat_tests, common_steps) in
+    let none : length c.loop-rest.rest.now ≡ 0 = grind (arith, nat_tests) in
     all_is_put c.loop-rest.rest.now c.loop-rest.invariant.put none

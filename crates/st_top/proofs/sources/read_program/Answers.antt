@@ -1,4 +1,4 @@
-use Rattle.std.proofs.Common.{◌≡◌, ℕ, List, Err}
+use Rattle.std.proofs.Common.{ℕ, List}
 use Rattle.st_source.specs.Accepted.{IsSourceOf}
 use Rattle.st_top.proofs.ReadingLemmas.{each_ok, each_err, holds_of_told, told_text_has_its_cause, too_long_is_longer}
 use Rattle.st_top.proofs.sources.read_program.Goals as goal
