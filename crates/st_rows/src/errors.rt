@@ -9,7 +9,7 @@ use st_source::SourceError;
 pub enum Unrun {
     /// The text is no accepted source.
     Source(SourceError),
-    /// A number is above its limit, the text has no such thread, or the journal is too long to be read again.
+    /// A number is beyond its limits, or the journal is too long to be read again.
     TooLarge,
     /// The journal can't be replayed.
     Replay(ReplayError),

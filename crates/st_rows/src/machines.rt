@@ -9,7 +9,7 @@ use std::alloc::Global;
 /// A word that is handed in, and what the machine must tell then.
 pub type Tell = (u64, Want);
 
-/// The place, from 0, of the first word at which the machine of thread `m` of the text tells something else; None where it tells all that is wanted.
+/// The place, from 0, of the first word at which the machine of the text's first thread tells something else; None where it tells all that is wanted.
 /// It may make `objects` objects, and `events` is its charge.
 pub fn first_other(
     alloc: Global,
