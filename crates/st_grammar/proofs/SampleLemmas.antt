@@ -9,6 +9,7 @@ pub data In {A : Type 0} : A → List A → Type 0 where
   here : {x : A} {xs : List A} → In x (x ∷ xs)
   there : {x y : A} {xs : List A} → In x xs → In x (y ∷ xs)
 
+-- where two tests hold together, each holds
 pub both : (a b : Bool) → (a && b) ≡ true → (a ≡ true) × (b ≡ true)
 both true b e = (refl, e)
 both false b e = absurd cc
@@ -50,6 +51,7 @@ other_in [] None c e = absurd cc
 other_in [] (Some d) c e = let same : d ≡ c = cc in subst (λ x. In x (d ∷ [])) same here
 other_in (first ∷ later) other c e = there (other_in later other c e)
 
+-- the choice taken for a part at a next sort, or at the end, is one of those that the grammar lists for the part
 pub choice_in : {T K N : Type 0} (g : Grammar T K N) (n : N) (k : Option K) (c : List (Symbol K N)) → choice_at g n k ≡ Some c → In c (choices_of (g.choices n).told (g.choices n).other)
 choice_in g n None c e = other_in (g.choices n).told (g.choices n).other c e
 choice_in g n (Some k) c e = told_in (g.same k) (g.choices n).told (g.choices n).other c e

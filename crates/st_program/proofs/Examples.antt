@@ -76,8 +76,10 @@ a_program_is_well_formed = record {
 pub null_is_compared : HasKind a_setting (a_binary Equal (a_local 0) a_null (at_line 4)) Bool
 null_is_compared = (Ref 1, tt, refl, tt, refl)
 
+-- no kind fits both sides where an object is compared with a number
 pub number_is_not_compared : HasKind a_setting (a_binary Equal (a_local 0) (a_number (pos 0)) (at_line 4)) Bool → ⊥
 number_is_not_compared h = let here : Some (Ref 1) ≡ Some h.0 = h.2 in let there : h.0 ≡ Int = h.3 in cc
 
+-- an object is no operand of `+`
 pub objects_are_not_added : HasKind a_setting (a_binary Add (a_local 0) (a_local 0) (at_line 4)) Int → ⊥
 objects_are_not_added h = let here : Some (Ref 1) ≡ Some h.0 = h.2 in let there : h.0 ≡ Int = h.1 in cc
