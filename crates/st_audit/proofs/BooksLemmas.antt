@@ -85,6 +85,7 @@ counted_joined : (active : List ℕ) (xs ys : List Span) → count_needed active
 counted_joined active xs ys =
     ap (λ (zs : List Span). length zs) (filter-append (is_needed active) xs ys) ∙ length-append (filter (is_needed active) xs) (filter (is_needed active) ys)
 
+-- no more rows are needed than there are
 pub counted_are_few : (active : List ℕ) (rows : List Span) → count_needed active rows ≤ length rows
 counted_are_few active [] = omega arith
 counted_are_few active (row ∷ rows) = by (is_needed active row) (counted_are_few active rows)
@@ -107,6 +108,7 @@ one_more_passes_not : (p : ℕ → Bool) (ns : List ℕ) (k : ℕ) → p k ≡ f
 one_more_passes_not p ns k e =
     filter-append p ns (k ∷ []) ∙ ap (λ (b : Bool). filter p ns ++ cond b (k ∷ []) []) e ∙ append-nil (filter p ns)
 
+-- a check that is launched after rows were kept leaves what is needed of them as it was
 pub left_at_launch :
     (active : List ℕ) (rows : List Span) (n number : ℕ)
     → n < number
@@ -343,6 +345,7 @@ pub record IsCounted (b : Books) (number : ℕ) : Type 0 where
   pub enough : count_needed b.active (rows_since number b) ≤ b.kept
   pub left : b.kept - count_needed b.active (rows_since number b) + count_needed (without number b.active) (rows_since number b) ≡ count_needed (without number b.active) b.rows
 
+-- the Retire of a launched check counts right: the rows before its launch are needed as before, and those since are counted anew
 pub retire_is_counted : (b : Books) (number : ℕ) → 1 ≤ number → number ≤ b.epoch → IsBalanced b → IsCounted b number
 retire_is_counted b number some launched_it balance =
     let i : number - 1 < b.epoch = omega (arith, some, launched_it) in
@@ -378,6 +381,7 @@ stamps_after b w obj lt epoch was o = elim (eqb_tells o obj) [
   | inr e ↦ rw e.0 (get_or-set_other b.stamps obj o b.epoch 0 e.1 ∙ was o)
 ]
 
+-- the first books tell of the first world
 pub first_is_ledger : (shape : ShapeLists) (sizes : Sizes) → IsLedgerOf sizes (first_books sizes) (first_world shape) (FIRST_OF_REGIONS + sizes.mutators * sizes.objects)
 first_is_ledger shape sizes = record {
   copies = refl;
@@ -419,6 +423,7 @@ changed_is_ledger shape sizes b w m obj field value objects lt l =
       };
     }
 
+-- a ledger that tells of a world tells, once it has noted a legal event, of the next
 pub noted_is_ledger :
     (shape : ShapeLists) (sizes : Sizes) (b : Books) (w : World) (e : Event) (objects : ℕ)
     → IsLegalNext shape sizes w e
@@ -482,6 +487,7 @@ pub record AddsOne (e : Event) (b : Books) : Type 0 where
   pub epoch : (noted e b).epoch ≤ b.epoch + 1
   pub rows : length (noted e b).rows ≤ length b.rows + 1
 
+-- no event adds more than one launch and one row
 pub noted_adds_one : (e : Event) (b : Books) → AddsOne e b
 noted_adds_one (New m obj class) b = record { epoch = omega arith; rows = omega arith }
 noted_adds_one (Load m obj field value) b = record { epoch = omega arith; rows = omega arith }

@@ -59,6 +59,7 @@ same_turn t s small e = sym (widened t (subst IsSmallTurn (sym e) small)) ∙ e
 same_narrowed : (t s : Turn) → IsSmallTurn s → t ≡ s → narrowed t ≡ s
 same_narrowed t s small e = small_is_narrowed t (subst IsSmallTurn (sym e) small) ∙ e
 
+-- an event that names a small object and answers what the machine told answers what the code asks for
 pub answer_told : (e : Event) (t : Turn) → NamesSmall e → IsAnswerTo e (narrowed t) → IsAnswerTo e t
 answer_told (New m obj class) t small h = same_turn t (asks_for (make class)) tt h
 answer_told (Load m obj field value) t small h = same_turn t (asks_for (load obj field)) small h
@@ -67,6 +68,7 @@ answer_told (Cas m obj field expect value done) t small h = same_turn t (asks_fo
 answer_told (Launch m site number args) t small h = same_turn t (asks_for (launch site args)) tt h
 answer_told (Retire m number) t small h = h
 
+-- and the other way: what answers the code answers what the machine told
 pub answer_narrowed : (e : Event) (t : Turn) → NamesSmall e → IsAnswerTo e t → IsAnswerTo e (narrowed t)
 answer_narrowed (New m obj class) t small h = same_narrowed t (asks_for (make class)) tt h
 answer_narrowed (Load m obj field value) t small h = same_narrowed t (asks_for (load obj field)) small h
@@ -98,6 +100,7 @@ own_and_one thread es k d lt own =
 own_split : (thread : ℕ) (es : List Event) (k : ℕ) → own_events thread es ≡ own_events thread (take k es) ++ own_events thread (drop k es)
 own_split thread es k = ap (own_events thread) (sym (take-append-drop k es)) ∙ filter-append (is_own thread) (take k es) (drop k es)
 
+-- a thread has no more own events than the journal has events
 pub own_are_few : (thread : ℕ) (es : List Event) → length (own_events thread es) ≤ length es
 own_are_few thread [] = omega arith
 own_are_few thread (e ∷ es) = by (is_own thread e) (own_are_few thread es)
@@ -123,9 +126,11 @@ abbrev pub Narrows : Mutating → ℕ → Want → Type 0
 Narrows m reply want =
     (p : Program) (sizes : Sizes) (thread : ℕ) (words : List ℕ) → HasHad p sizes thread m words → turn_of_want want ≡ narrowed (next_request p sizes thread (replies_in (words ++ reply ∷ [])))
 
+-- what `next` says of the machine that it leaves: it has had one reply more
 abbrev pub GoesOn : Mutating → ℕ → Mutating → Type 0
 GoesOn old reply new = (p : Program) (sizes : Sizes) (thread : ℕ) (words : List ℕ) → HasHad p sizes thread old words → HasHad p sizes thread new (words ++ reply ∷ [])
 
+-- a machine that was just made, once it was started, has followed no own events
 pub followed_at_first :
     (p : Program) (sizes : Sizes) (thread : ℕ) (old new : Mutating) (want : Want)
     → HasHad p sizes thread old []
@@ -135,6 +140,7 @@ pub followed_at_first :
 followed_at_first p sizes thread old new want made narrows goes =
     record { had = goes p sizes thread [] made; told = narrows p sizes thread [] made; leads = events_lead_by_replies.first p sizes thread }
 
+-- an own event that answers what was told, and the reply of which the machine was given, is followed too
 pub followed_one_more :
     (p : Program) (sizes : Sizes) (thread : ℕ) (own : List Event) (e : Event) (old new : Mutating) (want later : Want)
     → NamesSmall e
@@ -195,6 +201,7 @@ asks_more (asks_for (cas obj field expect value)) h = tt
 asks_more (asks_for (launch site args)) h = tt
 asks_more (has_ended end) h = absurd (cc)
 
+-- where all own events are followed and the thread has ended, they are a trace
 pub follows_to_its_end :
     (p : Program) (sizes : Sizes) (thread : ℕ) (es : List Event) (m : Mutating) (want : Want)
     → is_end (turn_of_want want) ≡ true
@@ -205,6 +212,7 @@ follows_to_its_end p sizes thread es m want over was =
     let end = ended_at (next_request p sizes thread (replies_of (own_events thread es))) (subst (λ (t : Turn). is_end t ≡ true) was.told over) in
     (end.0, subst (LeadTo p sizes thread (own_events thread es)) end.1 was.leads)
 
+-- where all own events are followed and the thread asks for more, the first difference stands behind the last of them
 pub misses_one :
     (p : Program) (sizes : Sizes) (thread : ℕ) (es : List Event) (m : Mutating) (want : Want) (count : ℕ)
     → is_end (turn_of_want want) ≡ false
@@ -236,6 +244,7 @@ pub record IsComparedUpTo (p : Program) (sizes : Sizes) (thread : ℕ) (es : Lis
   pub followed : IsFollowed p sizes thread (own_events thread (take k es)) m want
   pub counted : count ≡ length (own_events thread (take k es))
 
+-- an event that is not the thread's own leaves the comparison as it is
 pub compared_further :
     (p : Program) (sizes : Sizes) (thread : ℕ) (es : List Event) (k : ℕ) (d : Event) (m : Mutating) (want : Want) (count : ℕ)
     → k < length es
@@ -247,6 +256,7 @@ compared_further p sizes thread es k d m want count lt no_own was = record {
   counted = was.counted ∙ ap (λ (own : List Event). length own) (sym (own_as_before thread es k d lt no_own));
 }
 
+-- an own event that answers what was told takes the comparison and its count one further
 pub compared_one_more :
     (p : Program) (sizes : Sizes) (thread : ℕ) (es : List Event) (k : ℕ) (d : Event) (old new : Mutating) (want later : Want) (count : ℕ)
     → k < length es

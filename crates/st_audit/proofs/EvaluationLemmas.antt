@@ -25,6 +25,7 @@ pub record IsEvaluating (p : Program) (heap : Heap) (site : ℕ) (args : List �
   pub seen : has_cell_of about (cells_read p heap site args calls) ≡ (reads || has_cell_of about (left_of p heap e reply).cells)
   pub small : AreSmall (left_of p heap e reply).cells
 
+-- an evaluator that was just started is at the beginning of its check
 pub evaluation_begins :
     (p : Program) (heap : Heap) (site : ℕ) (args : List ℕ) (calls about : ℕ) (e : Eval)
     → turn_by p e 0 ≡ turn_of (check_course p site args) calls
@@ -45,6 +46,7 @@ pub record IsStep (p : Program) (heap : Heap) (site : ℕ) (args : List ℕ) (ca
   pub on : IsEvaluating p heap site args calls about new (word_found heap obj field) (reads || (obj == about))
   pub fewer : length (left_of p heap new (word_found heap obj field)).cells < length (left_of p heap old reply).cells
 
+-- a read that is given the word of the heap is one step of the evaluation, and leaves fewer cells to read
 pub evaluation_reads :
     (p : Program) (heap : Heap) (site : ℕ) (args : List ℕ) (calls about : ℕ) (old new : Eval) (reply obj field : ℕ) (reads : Bool)
     → IsEvaluating p heap site args calls about old reply reads

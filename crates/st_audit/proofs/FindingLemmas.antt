@@ -41,6 +41,7 @@ leads_on p sizes thread before [] (asks_for request) end leads whole differs =
     let both : asks_for request ≡ has_ended end = sym (events_lead_by_replies.now p sizes thread before (asks_for request) leads) ∙ over in cc
 leads_on p sizes thread before [] (has_ended other) end leads whole differs = differs
 
+-- own events that follow the code to its end have no first difference
 pub trace_does_not_differ : (p : Program) (sizes : Sizes) (es : List Event) (thread number : ℕ) → IsTrace p sizes es thread → IsFirstDifference p sizes thread (own_events thread es) number → ⊥
 unfolding Follows
 trace_does_not_differ p sizes es thread number t d =

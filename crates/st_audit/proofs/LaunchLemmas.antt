@@ -81,6 +81,7 @@ pub record IsLaunchAt (shape : ShapeLists) (p : Program) (sizes : Sizes) (es : L
   pub small : AreSmall (cells_read p (heap_after shape sizes (take k es)) site (words_of args) sizes.calls)
   pub known : launch_of shape sizes es number ≡ Some (record { past = heap_after shape sizes (take k es); thread = thread; site = site; args = args })
 
+-- a launch in a legal journal is known by its number, and its check can be evaluated on the heap before it
 pub launch_at :
     (shape : ShapeLists) (p : Program) (sizes : Sizes) → IsWellFormed shape p
     → (es : List Event) (k thread site number : ℕ) (args : Args) (d : Event)
@@ -117,6 +118,7 @@ pub record IsToldBy (shape : ShapeLists) (p : Program) (sizes : Sizes) (es : Lis
   pub right : IsRightOn p heap site args sizes.calls lost verdict → IsRightVerdict shape p sizes es number verdict
   pub only : IsRightVerdict shape p sizes es number verdict → IsRightOn p heap site args sizes.calls lost verdict
 
+-- whether a verdict is right is told by the heap of its launch and by whether the version that it names is lost
 pub verdict_is_told :
     (shape : ShapeLists) (p : Program) (sizes : Sizes) (es : List Event) (number : ℕ) (heap : Heap) (thread site : ℕ) (args : Args) (lost : Bool) (verdict : Verdict)
     → launch_of shape sizes es number ≡ Some (record { past = heap; thread = thread; site = site; args = args })

@@ -41,6 +41,7 @@ another_pair obj number o k other = elim (eqb_tells obj o) [
 same_claim : (verdicts : List Verdict) (n obj o : ℕ) → slice_get verdicts n ≡ Some (Abandoned obj) → slice_get verdicts n ≡ Some (Abandoned o) → obj ≡ o
 same_claim verdicts n obj o e f = let both : Some (Abandoned obj) ≡ Some (Abandoned o) = sym e ∙ f in cc
 
+-- one pair more is lost, and the verdict of its check claims its object: a mark at that verdict keeps the marks right
 pub marks_one_more :
     (verdicts : List Verdict) (pairs : List Pair) (marks : List Bool) (index obj number : ℕ)
     → number ≡ index + 1
@@ -71,6 +72,7 @@ marks_one_more verdicts pairs marks index obj number e claim old = record { coun
           )
     ]
 
+-- one pair more is lost, and no verdict claims it: the marks are right as they are
 pub marks_of_no_claim :
     (verdicts : List Verdict) (pairs : List Pair) (marks : List Bool) (obj number : ℕ)
     → ((index : ℕ) → number ≡ index + 1 → slice_get verdicts index ≢ Some (Abandoned obj))
@@ -102,6 +104,7 @@ above_one_more :
 above_one_more stamp ns k d lt =
     ap (λ (xs : List ℕ). filter (λ n. nat_lt stamp n) xs) (take_more ns k d lt) ∙ filter-append (λ n. nat_lt stamp n) (take k ns) (get_or ns k d ∷ [])
 
+-- the next active check, launched after the stamp, adds its pair
 pub pairs_one_more :
     (pairs : List Pair) (obj stamp : ℕ) (ns : List ℕ) (k d : ℕ)
     → k < length ns
@@ -114,6 +117,7 @@ pairs_one_more pairs obj stamp ns k d lt above =
     ∙ ap (λ (zs : List Pair). pairs ++ zs) (pairs_joined obj (filter (λ n. nat_lt stamp n) (take k ns)) (get_or ns k d ∷ []))
     ∙ sym (append_assoc pairs (pairs_of obj (filter (λ n. nat_lt stamp n) (take k ns))) ((record { obj = obj; check = get_or ns k d }) ∷ []))
 
+-- the next active check, launched no later than the stamp, adds none
 pub pairs_as_before :
     (pairs : List Pair) (obj stamp : ℕ) (ns : List ℕ) (k d : ℕ)
     → k < length ns
@@ -152,6 +156,7 @@ lost_of_change shape sizes w (Cas m o field expect value false) obj n = cc
 lost_of_change shape sizes w (Launch m site number args) obj n = cc
 lost_of_change shape sizes w (Retire m number) obj n = cc
 
+-- an event that changes no object leaves the marks right
 pub marks_stay :
     (shape : ShapeLists) (sizes : Sizes) (w : World) (e : Event) (verdicts : List Verdict) (marks : List Bool)
     → changed_by e ≡ None
@@ -159,6 +164,7 @@ pub marks_stay :
     → AreMarks verdicts (next shape sizes w e).lost marks
 marks_stay shape sizes w e verdicts marks n old = subst (λ (pairs : List Pair). AreMarks verdicts pairs marks) (sym (lost_of_no_change shape sizes w e n)) old
 
+-- so does a change while a copy is left
 pub marks_stay_with_room :
     (shape : ShapeLists) (sizes : Sizes) (b : Books) (w : World) (e : Event) (obj objects : ℕ) (verdicts : List Verdict) (marks : List Bool)
     → changed_by e ≡ Some obj
@@ -172,6 +178,7 @@ marks_stay_with_room shape sizes b w e obj objects verdicts marks n l room old =
     lost_of_change shape sizes w e obj n ∙ ap (λ (f : Bool). cond f (w.lost ++ pairs_of obj (needing_in w obj)) w.lost) free in
     subst (λ (pairs : List Pair). AreMarks verdicts pairs marks) (sym same) old
 
+-- marks for the pairs of a change in a full pool, as the ledger tells them, are right for the next world
 pub marks_at_loss :
     (shape : ShapeLists) (sizes : Sizes) (b : Books) (w : World) (e : Event) (obj objects : ℕ) (verdicts : List Verdict) (marks : List Bool)
     → changed_by e ≡ Some obj
@@ -187,6 +194,7 @@ marks_at_loss shape sizes b w e obj objects verdicts marks n l full now =
     lost_of_change shape sizes w e obj n ∙ ap (λ (f : Bool). cond f (w.lost ++ pairs_of obj (needing_in w obj)) w.lost) spent in
     subst (λ (pairs : List Pair). AreMarks verdicts pairs marks) (sym same) (subst (λ (ns : List ℕ). AreMarks verdicts (w.lost ++ pairs_of obj ns) marks) needed now)
 
+-- before anything is lost no verdict has a mark
 pub no_marks : (verdicts : List Verdict) (n : ℕ) → n ≡ length verdicts → AreMarks verdicts [] (replicate n false)
 no_marks verdicts n e = record { count = length-replicate n false ∙ e; each = λ i obj claim. none n i }
   where

@@ -62,7 +62,8 @@ no_earlier_fault shape sizes es a b v w f g lt =
     let cut = cut_at f.before g.before (f.event ∷ f.rest) (g.event ∷ g.rest) (sym f.split ∙ g.split) lt in
     let rest : f.event ∷ f.rest ≡ cut.item ∷ cut.left = cut.rest in
     let same : cut.item ≡ f.event = cc in
-    let here : illegal_reason shape sizes (world_after shape sizes f.before) cut.item ≡ None = each_is_legal shape sizes f.before cut.more cut.item (subst (IsLegal shape sizes) cut.front g.legal_before) in
+    let here : illegal_reason shape sizes (world_after shape sizes f.before) cut.item ≡ None =
+    each_is_legal shape sizes f.before cut.more cut.item (subst (IsLegal shape sizes) cut.front g.legal_before) in
     let fault : Some v ≡ None = sym f.reason ∙ ap (illegal_reason shape sizes (world_after shape sizes f.before)) (sym same) ∙ here in cc
 
 one_place : (shape : ShapeLists) (sizes : Sizes) (es : List Event) (a b : ℕ) (v w : Why) → IsFirstIllegal shape sizes es a v → IsFirstIllegal shape sizes es b w → a ≡ b
@@ -94,7 +95,11 @@ one_stray p sizes es t u n m a b =
     (same, one_number p sizes u (own_events u es) n m (subst (λ (x : ℕ). IsFirstDifference p sizes x (own_events x es) n) same a.first) b.first)
 
 -- a check has one plain value
-one_plain : (shape : ShapeLists) (p : Program) (sizes : Sizes) (es : List Event) (n : ℕ) (a b : Plain) → IsRightVerdict shape p sizes es n (Value a) → IsRightVerdict shape p sizes es n (Value b) → a ≡ b
+one_plain :
+    (shape : ShapeLists) (p : Program) (sizes : Sizes) (es : List Event) (n : ℕ) (a b : Plain)
+    → IsRightVerdict shape p sizes es n (Value a)
+    → IsRightVerdict shape p sizes es n (Value b)
+    → a ≡ b
 unfolding IsRightVerdict
 one_plain shape p sizes es n a b r s = by (launch_of shape sizes es n) r s
   where
@@ -126,6 +131,7 @@ one_wrong shape p sizes es verdicts n m v w a b =
 
 -- ---- two findings
 
+-- two findings of one journal, neither of them want of memory, are the same
 pub one_finding :
     (shape : ShapeLists) (p : Program) (sizes : Sizes) (es : List Event) (verdicts : List Verdict) (f g : Finding)
     → (f ≡ found.Memory → ⊥)

@@ -23,6 +23,7 @@ use Rattle.st_audit.specs.Balance.{CanNote}
 abbrev pub room : Sizes → ℕ
 room sizes = FIRST_OF_REGIONS + sizes.mutators * sizes.objects
 
+-- within the limits there are at most so many numbers
 pub room_is_small : (sizes : Sizes) → AreWithinLimits sizes → room sizes ≤ 131074
 room_is_small sizes w = let most : sizes.mutators * sizes.objects ≤ 8 * 16384 = mul-le-mul w.mutators w.objects.1 in omega (arith, most)
 
@@ -36,6 +37,7 @@ pub standing : {A : Type 0} (o : Option A) → IsSome o → (x : A) × (o ≡ So
 standing None i = absurd (cc)
 standing (Some x) i = (x, refl)
 
+-- each object of the heap after a legal journal has one of the numbers
 pub object_is_within :
     (shape : ShapeLists) (sizes : Sizes) → IsWithinLimits shape
     → (es : List Event) (obj : ℕ) (x : Object)
@@ -49,6 +51,7 @@ object_is_within shape sizes limits es obj x l e =
       | inr made ↦ in_a_region sizes.mutators sizes.objects made.m made.k obj made.thread (omega (arith, made.made, s.regions.room made.m)) made.number
     ]
 
+-- so has the object of each cell that exists
 pub cell_is_within :
     (shape : ShapeLists) (sizes : Sizes) → IsWithinLimits shape
     → (es : List Event) (obj field : ℕ)
@@ -119,6 +122,7 @@ pub record IsLegalAt (shape : ShapeLists) (sizes : Sizes) (es : List Event) (k :
   pub world : world_after shape sizes (take (k + 1) es) ≡ next shape sizes (world_after shape sizes (take k es)) (get_or es k d)
   pub split : es ≡ take k es ++ get_or es k d ∷ drop (k + 1) es
 
+-- what is known of the event at a place of a legal journal
 pub legal_at : (shape : ShapeLists) (sizes : Sizes) (es : List Event) (k : ℕ) (d : Event) → k < length es → IsLegal shape sizes es → IsLegalAt shape sizes es k d
 legal_at shape sizes es k d lt l =
     let more : take (k + 1) es ≡ take k es ++ get_or es k d ∷ [] = take_more es k d lt in
@@ -161,6 +165,7 @@ small_name shape sizes limits es (Cas m obj field expect value done) l n few =
 small_name shape sizes limits es (Launch m site number args) l n few = tt
 small_name shape sizes limits es (Retire m number) l n few = tt
 
+-- each event of a legal journal names an object with a small number
 pub names_are_small :
     (shape : ShapeLists) (sizes : Sizes) → IsWithinLimits shape → AreWithinLimits sizes
     → (es : List Event)

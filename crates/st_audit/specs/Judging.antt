@@ -18,6 +18,7 @@ pub record CanJudgeLaunch (p : Program) (heap : Heap) (calls number site : ℕ) 
   pub few : args.count ≤ MOST_ARGS
   pub small : AreSmall (cells_read p heap site (words_of args) calls)
 
+-- an event can be judged: a launch as just said, any other at once
 abbrev pub CanJudge : Program → Heap → ℕ → Event → Type 0
 CanJudge p heap calls (New m obj class) = Unit {0}
 CanJudge p heap calls (Load m obj field value) = Unit {0}
