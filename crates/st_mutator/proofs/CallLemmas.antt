@@ -51,6 +51,7 @@ loop_at m index test body next h here =
     ap {B = List ℕ → Means → Deed} (λ (k : Meaning) c b. k [] c b (rest_of m))
     (code_at (code_calls m.nodes m.entries (MOST_OPEN_CALLS - length m.callers.items)) m.nodes index (While test body next) here (h.code.ordered index (While test body next) here))
 
+-- a turn that can be paid for is a step: its charge is gone, a frame for the condition waits, and the code goes on at the condition
 pub turn_step :
     (m : Machine) (index : ℕ) (test body next : Next)
     → IsStanding m
@@ -89,6 +90,7 @@ turn_step m index test body next h at here enough =
           (omega (arith, some)) (omega (arith, places.0, within));
     }
 
+-- a turn that cannot be paid for ends the thread for want of charge, and the machine stays as it was
 pub turn_spent :
     (m : Machine) (test body next : Next)
     → IsStanding m
@@ -145,6 +147,7 @@ call_deed m procedure count at next few =
     ap (λ (d : ℕ). code_calls m.nodes m.entries d procedure (reverse (take count m.operands.items)) at (means_of m)
     (λ left. going_in m next [] m.locals left (rest_of m))) one_more
 
+-- a call that cannot be paid for ends the thread for want of charge, and the machine stays as it was
 pub call_spent :
     (m : Machine) (procedure count : ℕ) (at : Site) (next : Next)
     → IsStanding m

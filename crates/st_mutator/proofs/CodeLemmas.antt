@@ -28,6 +28,7 @@ pub onto_both :
 onto_both calls ms [] more = refl
 onto_both calls ms (node ∷ nodes) more = onto_both calls (ms ++ node_meaning calls (going ms) node ∷ []) nodes more
 
+-- there is one meaning for each node, behind those that were there
 pub onto_length :
     (calls : ProcCalls) (ms : List Meaning) (nodes : List Node)
     → length (meanings_onto calls ms nodes) ≡ length ms + length nodes
@@ -45,11 +46,13 @@ onto_front calls ms (node ∷ nodes) =
     let rest = onto_front calls (ms ++ m ∷ []) nodes in
     (m ∷ rest.0, rest.1 ∙ append_assoc ms (m ∷ []) rest.0)
 
+-- what stands at an index of the first list stands there in both together
 pub front_get : {X : Type 0} (xs ys : List X) (k : ℕ) → k < length xs → slice_get (xs ++ ys) k ≡ slice_get xs k
 front_get [] ys k h = absurd (omega (arith, h))
 front_get (x ∷ xs) ys zero h = refl
 front_get (x ∷ xs) ys (suc k) h = front_get xs ys k (omega (arith, h))
 
+-- behind a list of so many items comes the item that follows it
 pub seam_get : {X : Type 0} (xs : List X) (y : X) (ys : List X) (k : ℕ) → length xs ≡ k → slice_get (xs ++ y ∷ ys) k ≡ Some y
 seam_get [] y ys zero e = refl
 seam_get [] y ys (suc k) e = absurd (omega (arith, e))
@@ -116,6 +119,7 @@ pub record IsSplit {X : Type 0} (xs : List X) (index : ℕ) (x : X) : Type 0 whe
   pub parts : xs ≡ before ++ x ∷ after
   pub at : length before ≡ index
 
+-- a list in which something stands at an index falls into what is before it, this item, and what is after it
 pub split_at : {X : Type 0} (xs : List X) (index : ℕ) (x : X) → slice_get xs index ≡ Some x → IsSplit xs index x
 split_at [] index x e = absurd (cc)
 split_at (y ∷ ys) zero x e = record { before = []; after = ys; parts = let same : y ≡ x = cc in ap (λ z. z ∷ ys) same; at = refl }
@@ -157,9 +161,11 @@ code_at calls nodes index node e within = by (split_at nodes index node e)
 
 -- ---- what comes behind is looked at with no more charge
 
+-- two continuations that do the same wherever no more than so much charge is left
 abbrev pub SameRest : ℕ → Rest → Rest → Type 0
 SameRest charge rest other = (ops locals : List ℕ) (means : Means) → means.charge ≤ charge → rest ops locals means ≡ other ops locals means
 
+-- a meaning that depends on what comes behind it only where no more charge is left than it began with
 abbrev pub LooksNoFurther : Meaning → Type 0
 LooksNoFurther m = (ops locals : List ℕ) (means : Means) (rest other : Rest) → SameRest means.charge rest other → m ops locals means rest ≡ m ops locals means other
 
@@ -167,6 +173,7 @@ LooksNoFurther m = (ops locals : List ℕ) (means : Means) (rest other : Rest) �
 less_rest : (few many : ℕ) (rest other : Rest) → few ≤ many → SameRest many rest other → SameRest few rest other
 less_rest few many rest other le h ops locals means le' = h ops locals means (omega (arith, le, le'))
 
+-- what comes behind the condition of a loop: where it is true the body and then the loop again, else what is behind the loop
 abbrev pub turn_after : Meaning → (List ℕ → Means → Deed) → (List ℕ → Means → Deed) → Rest
 turn_after body again rest ops locals means =
     elim (is_true (top ops)) [ true ↦ body [] locals means (λ _ changed behind. again changed behind) | false ↦ rest locals means ]
@@ -185,6 +192,7 @@ code_turn_same test body ht hb again another locals means rest other ha h =
     (hb [] same left (λ _ c b. again c b) (λ _ c b. another c b) (λ _ c b le'. ha c b (omega (arith, le, le'))))
     (h same left (omega (arith, le)))))
 
+-- a loop depends on what is behind it only where no more charge is left than it began with
 pub code_turns_same :
     (test body : Meaning) → LooksNoFurther test → LooksNoFurther body
     → (n : ℕ) (locals : List ℕ) (means : Means) (rest other : List ℕ → Means → Deed)
@@ -195,6 +203,7 @@ code_turns_same test body ht hb (suc n) locals means rest other h =
     code_turn_same test body ht hb (λ c b. code_turns n test body c b rest) (λ c b. code_turns n test body c b other) locals means rest other
     (λ c b le. code_turns_same test body ht hb n c b rest other (λ x m le'. h x m (omega (arith, le, le')))) h
 
+-- as many turns as there is charge are enough: more of them change nothing
 pub code_turns_enough :
     (test body : Meaning) → LooksNoFurther test → LooksNoFurther body
     → (n k : ℕ) (locals : List ℕ) (means : Means) (rest : List ℕ → Means → Deed)
@@ -300,6 +309,7 @@ onto_looks calls hc ms (node ∷ nodes) h =
     onto_looks calls hc (ms ++ node_meaning calls (going ms) node ∷ []) nodes
     (all_look_both ms (node_meaning calls (going ms) node) h (node_looks calls (going ms) hc (going_looks ms h) node))
 
+-- code looks at what comes behind it with no more charge than it began with, where calls do so
 pub code_looks : (calls : ProcCalls) → CallsLookBelow calls → (nodes : List Node) (next : Next) → LooksNoFurther (code_meaning calls nodes next)
 unfolding code_meaning
 code_looks calls hc nodes next = going_looks (meanings_onto calls [] nodes) (onto_looks calls hc [] nodes tt) next
@@ -312,6 +322,7 @@ entered_same :
 entered_same go hg None words means rest other h = h means (omega arith)
 entered_same go hg (Some entry) words means rest other h = hg entry.first [] _ means (λ _ _ left. rest left) (λ _ _ left. other left) (λ _ _ left le. h left le)
 
+-- a call looks at what comes behind it with no more charge than it began with, however many calls are open
 pub code_calls_look : (nodes : List Node) (entries : List Entry) (depth : ℕ) → CallsLookBelow (code_calls nodes entries depth)
 unfolding code_calls
 code_calls_look nodes entries zero called words at means rest other h = refl

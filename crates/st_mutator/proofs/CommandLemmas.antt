@@ -169,6 +169,7 @@ names_are_taken (name ∷ names) before site k locals means rest =
 abbrev pub Begin : Type 0
 Begin = List ℕ → Means → Rest → Deed
 
+-- what code does from a place on, with no operands
 abbrev pub begin : ProcCalls → List Node → Next → Begin
 begin calls nodes next locals means rest = code_meaning calls nodes next [] locals means rest
 
@@ -191,9 +192,11 @@ begun_by laid nodes inner meaning h same = record {
   means = λ calls. ap {B = Begin} (λ (m : Meaning) locals means rest. m [] locals means rest) (h.means calls) ∙ same calls;
 }
 
+-- what the statement does, and then what begins behind it
 abbrev pub after_command : Program → ProcCalls → Command → Begin → Begin
 after_command p calls c k locals means rest = command_deed p calls c locals means (λ changed left. k changed left rest)
 
+-- what the statements do, and then what begins behind them
 abbrev pub after_block : Program → ProcCalls → Block → Begin → Begin
 after_block p calls b k locals means rest = block_deed p calls b locals means (λ changed left. k changed left rest)
 
@@ -235,6 +238,7 @@ last_means : (calls : ProcCalls) (nodes : List Node) → code_meaning calls node
 unfolding code_meaning
 last_means calls nodes = refl
 
+-- nothing is done any more: what comes behind the code goes on, without operands
 abbrev pub at_end : Begin
 at_end locals means rest = rest [] locals means
 

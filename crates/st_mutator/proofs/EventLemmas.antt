@@ -28,6 +28,7 @@ unless_null_known obj at request means rest h = by (obj == 0) (ne_eqb obj 0 h)
     by true e = absurd (cc)
     by false e = refl
 
+-- a step that asks for an event without a null test is one with the test, where the object is not null
 pub not_null_step :
     (obj : ℕ) (at : Site) (request : Request) (means : Means) (rest : ℕ → Means → Deed) (a : Option Asked) (new : Machine) (nodes : List Node)
     (entries : List Entry) (work : ℕ)

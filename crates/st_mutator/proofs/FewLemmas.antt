@@ -11,5 +11,6 @@ few_in_each shape p [] h = tt
 few_in_each shape p (r ∷ rs) h =
     ((All-head (IsRightRoutine shape p) r rs h).few_locals, few_in_each shape p rs (All-tail (IsRightRoutine shape p) r rs h))
 
+-- in a well-formed program no procedure and no thread has more locals than a machine has room for
 pub well_formed_has_few_locals : (shape : ShapeLists) (p : Program) → IsWellFormed shape p → HasFewLocals p
 well_formed_has_few_locals shape p h = record { procs = few_in_each shape p p.procs h.procs; threads = few_in_each shape p p.threads h.threads }

@@ -23,15 +23,18 @@ pub record Grows (old new : List Node) : Type 0 where
   pub more : List Node
   pub is : new ≡ old ++ more
 
+-- nodes begin with themselves
 pub grows_same : (nodes : List Node) → Grows nodes nodes
 grows_same nodes = record { more = []; is = sym (append-nil nodes) }
 
+-- what begins with nodes that begin with others begins with these
 pub grows_both : (a b c : List Node) → Grows a b → Grows b c → Grows a c
 grows_both a b c g h = record {
   more = g.more ++ h.more;
   is = h.is ∙ ap (λ (ns : List Node). ns ++ h.more) g.is ∙ append_assoc a g.more h.more;
 }
 
+-- nodes that begin with others are no fewer
 pub grows_length : (a b : List Node) → Grows a b → length a ≤ length b
 grows_length a b g = omega (arith, ap (λ (ns : List Node). length ns) g.is, length-append a g.more)
 

@@ -57,6 +57,7 @@ told_as_it_is (asks_for (cas obj field expect value)) h = ap (λ (o : ℕ). asks
 told_as_it_is (asks_for (launch site args)) h = refl
 told_as_it_is (has_ended end) h = refl
 
+-- after a run of the machine the turn that is told is, but for the size of an object's number, what the code asks for next after the replies so far
 pub answered_request :
     (m new : Machine) (s : Mutating) (reply : ℕ) (a : Asked) (turn : Turn)
     → running m ≡ s
@@ -69,6 +70,7 @@ unfolding next_request
 answered_request m new s reply a turn seen h is p sizes thread words had =
     is ∙ ap narrowed (sym (answered_turn m new s reply a seen h) ∙ ap turn_of (had.does reply))
 
+-- and where the object that the code asks for has a number of 32 bits, the turn that is told is exactly that
 pub answered_exactly :
     (m new : Machine) (s : Mutating) (reply : ℕ) (a : Asked) (turn : Turn)
     → running m ≡ s
@@ -92,6 +94,7 @@ next_deed (asked.Cas obj field expect value) new more = refl
 next_deed (asked.Launch site args) new more = refl
 next_deed (asked.End end) new more = refl
 
+-- after a run of the machine the mutator has had one word more: whatever comes next, it does what the code does after these replies
 pub goes_on :
     (m new : Machine) (s : Mutating) (reply : ℕ) (a : Asked) (ended : Option End)
     → running m ≡ s
@@ -118,6 +121,7 @@ pub ended_request :
 unfolding next_request
 ended_request m s reply end seen p sizes thread words had = ap (λ (x : Mutating). turn_of (deed_with x reply)) seen ∙ ap turn_of (had.does reply)
 
+-- who has ended tells its end, and this is what the code comes to; an end names no object, so nothing of it is told otherwise
 pub ended_narrowed :
     (m : Machine) (s : Mutating) (reply : ℕ) (end : End)
     → record { machine = m; ended = Some end } ≡ s
@@ -126,6 +130,7 @@ pub ended_narrowed :
     → has_ended end ≡ narrowed (next_request p sizes thread (replies_in (words ++ reply ∷ [])))
 ended_narrowed m s reply end seen p sizes thread words had = ap narrowed (ended_request m s reply end seen p sizes thread words had)
 
+-- who has ended has had each further word too, and does nothing with it
 pub ended_goes_on :
     (m : Machine) (s : Mutating) (reply : ℕ) (end : End)
     → record { machine = m; ended = Some end } ≡ s
@@ -158,6 +163,7 @@ few_at [] index r h e = absurd (cc)
 few_at (x ∷ rs) zero r h e = let same : x ≡ r = cc in subst (λ (y : Routine). length y.locals ≤ MOST_LOCALS) same h.0
 few_at (x ∷ rs) (suc index) r h e = few_at rs index r h.1 e
 
+-- the laid code is code as a machine needs it: each node names earlier ones, and each procedure begins within it with few locals
 pub code_is_sound :
     (p : Program) (thread : ℕ)
     → HasFewLocals p

@@ -26,6 +26,7 @@ pub record IsEntryOf (p : Program) (nodes : List Node) (r : Routine) (entry : En
   pub within : rank entry.first ≤ length nodes
   pub means : (calls : ProcCalls) → begin calls nodes entry.first ≡ after_block p calls r.block at_end
 
+-- there is an entry for each routine, in order, and it is that routine's
 abbrev pub AreEntriesOf : Program → List Node → List Routine → List Entry → Type 0
 AreEntriesOf p nodes [] [] = Unit {0}
 AreEntriesOf p nodes (r ∷ rs) (entry ∷ entries) = IsEntryOf p nodes r entry × AreEntriesOf p nodes rs entries
@@ -60,6 +61,7 @@ pub record AreLaidProcs (p : Program) (rs : List Routine) (nodes : List Node) (l
   pub ordered : AreOrdered laid.nodes
   pub entries : AreEntriesOf p laid.nodes rs laid.entries
 
+-- behind nodes in order the code of the procedures is in order, and each has its entry
 pub procs_are_laid :
     (p : Program) (rs : List Routine) (nodes : List Node)
     → AreOrdered nodes
@@ -119,6 +121,7 @@ pub record IsProgramCode (p : Program) (thread : ℕ) (laid : LaidProgram) : Typ
 none_ordered : AreOrdered []
 none_ordered index node e = absurd (cc)
 
+-- the code of a program is in order, has an entry for each procedure, and from its first node on does what the thread does
 pub program_is_laid : (p : Program) (thread : ℕ) → IsProgramCode p thread (lay_program p thread)
 unfolding thread_deed code_meaning
 program_is_laid p thread = by (slice_get p.threads thread) refl

@@ -28,6 +28,7 @@ put_both next right =
     let word = put (node.Push 0 next) right.nodes in
     put (node.Branch right.first word.first) word.nodes
 
+-- a branch to a word that is pushed, 1, or to code that is laid in its place
 abbrev pub put_either : Next → Laid → Laid
 put_either next right =
     let word = put (node.Push 1 next) right.nodes in
@@ -95,6 +96,7 @@ abbrev pub field_of_target : Target → ℕ
 field_of_target (to_shared field) = field
 field_of_target (to_field object field at) = field
 
+-- where null is told of a target: at its `.`; a shared variable has no such place
 abbrev pub place_of_target : Target → Site
 place_of_target (to_shared field) = no_place
 place_of_target (to_field object field at) = at
@@ -150,6 +152,7 @@ pub record LaidProcs : Type 0 where
   pub nodes : List Node
   pub entries : List Entry
 
+-- procedures in source order: the code of each behind that of the earlier ones, and an entry for each
 abbrev pub lay_procs : List CheckStatement → List Routine → List Node → LaidProcs
 lay_procs checks [] nodes = record { nodes = nodes; entries = [] }
 lay_procs checks (r ∷ rs) nodes =
@@ -173,6 +176,7 @@ pub record LaidProgram : Type 0 where
   pub entries : List Entry
   pub entry : Entry
 
+-- the procedures first, then the thread with this number: so each body begins within one list of nodes
 abbrev pub lay_program : Program → ℕ → LaidProgram
 lay_program p thread =
     let procs = lay_procs p.checks p.procs [] in

@@ -23,6 +23,7 @@ abbrev pub deed_of_ended : Option End → Deed → Deed
 deed_of_ended None deed = deed
 deed_of_ended (Some end) deed = ends end
 
+-- what a mutator does once it is handed this word: an ended one tells its end and does no more
 abbrev pub deed_with : Mutating → ℕ → Deed
 deed_with m reply = deed_of_ended m.ended (deed_when_told m.machine reply)
 
@@ -55,6 +56,7 @@ NamesObject turn = Unit {0}
 abbrev pub narrow : ℕ → ℕ
 narrow obj = min obj (2 ^ 32 - 1)
 
+-- a turn as it is told: the object's number has 32 bits, and nothing else is changed
 abbrev pub narrowed : Turn → Turn
 narrowed (asks_for (load obj field)) = asks_for (load (narrow obj) field)
 narrowed (asks_for (store obj field value)) = asks_for (store (narrow obj) field value)
@@ -66,6 +68,7 @@ abbrev pub HaveFewLocals : List Routine → Type 0
 HaveFewLocals [] = Unit {0}
 HaveFewLocals (r ∷ rs) = (length r.locals ≤ MOST_LOCALS) × HaveFewLocals rs
 
+-- a program whose bodies' locals a machine has room for
 pub record HasFewLocals (p : Program) : Type 0 where
   pub procs : HaveFewLocals p.procs
   pub threads : HaveFewLocals p.threads

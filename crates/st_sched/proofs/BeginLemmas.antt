@@ -39,6 +39,7 @@ pub record LaunchFits (s : Snapshots) (m site : ℕ) (args : Args) : Type 0 wher
   pub lane : length (active_now s) < s.sizes.lanes
   pub spare : HasSpare s
 
+-- a launch that the journal allows is one that the heap takes: a lane is free, and the journal has room
 pub launch_fits : (p : Program) (m site : ℕ) (args : Args) (r : Running) → CanLaunch p m site args r → LaunchFits r.heap m site args
 launch_fits p m site args r h =
     let legal = launch_is_legal_there h.run.shape h.run.sizes h.run.state m site args h.after.legal in
@@ -53,6 +54,7 @@ pub record LaunchHasRoom (args : Args) (r : Running) : Type 0 where
   pub verdicts : length r.verdicts.items < vec_capacity r.verdicts
   pub checks : length r.checks.items < vec_capacity r.checks
 
+-- and the run has memory for it: an idle evaluator, and a place for the check and for its verdict
 pub launch_has_room : (p : Program) (m site : ℕ) (args : Args) (r : Running) → CanLaunch p m site args r → LaunchHasRoom args r
 launch_has_room p m site args r h =
     let legal = launch_is_legal_there h.run.shape h.run.sizes h.run.state m site args h.after.legal in
@@ -71,6 +73,7 @@ launch_has_room p m site args r h =
       checks = omega (arith, active, legal.lane, room.checks);
     }
 
+-- once the check has a lane, an evaluator and a place for its verdict, the run in memory stands for the state after the launch
 pub launch_stands :
     (p : Program) (before after : Running) (m site : ℕ) (args : Args) (eval : Eval) (c : ActiveCheck) (v : Verdict)
     → (t : IsUnderWay p before)
@@ -136,6 +139,7 @@ launch_stands p before after m site args eval c v t fresh number event legal oth
 epoch_stays : (shape : ShapeLists) (sizes : Sizes) (s : State) (m : ℕ) (ns : List ℕ) → epoch_of shape sizes (with_retires m ns s).journal ≡ epoch_of shape sizes s.journal
 epoch_stays shape sizes s m ns = ap (λ (w : World). w.epoch) (world_after_retires shape sizes s.journal m ns)
 
+-- a launch that is allowed once the finished checks are retired can be done as soon as they are
 pub can_launch_after :
     (p : Program) (m site : ℕ) (args : Args) (before after : Running)
     → (h : CanLaunchAfter p m site args before)
@@ -148,6 +152,7 @@ can_launch_after p m site args before after h stands history = record {
   few = let same = epoch_stays h.run.shape h.run.sizes h.run.state m (finished_in before.checks.items) in omega (arith, same, h.few);
 }
 
+-- retiring changes no progress: the check that is launched next has none yet
 pub fresh_after :
     (p : Program) (r : Running) (m : ℕ) (ns : List ℕ) (t : IsUnderWay p r)
     → IsFresh t

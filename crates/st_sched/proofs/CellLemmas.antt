@@ -55,6 +55,7 @@ pub record FitStatement (heap : Heap) (statement : Option (List Kind)) (args : A
   pub count : args.count ≡ length kinds
   pub fit : AreOfKinds heap kinds (words_of args)
 
+-- arguments that pass the test are those of a check statement that there is: as many as it takes, each of its kind
 pub args_that_fit : (heap : Heap) (statement : Option (List Kind)) (args : Args) → args_fit heap statement args ≡ true → FitStatement heap statement args
 args_that_fit heap None args h = absurd (cc)
 args_that_fit heap (Some kinds) args h =
@@ -78,6 +79,7 @@ some_is_there : (o : Option ℕ) (word : ℕ) → o ≡ Some word → IsSome o
 some_is_there None word e = cc
 some_is_there (Some x) word e = refl
 
+-- a check that is launched on a sound world with fitting arguments reads only cells that exist there, of objects with numbers of 32 bits
 pub launch_reads_well :
     (shape : ShapeLists) (p : Program) (sizes : Sizes) (launch : Launched) (w : World)
     → IsWellFormed shape p

@@ -30,6 +30,7 @@ pub record ReadFits (p : Program) (h : Snapshots) (c : ActiveCheck) (obj field :
   pub lane : IsLaneOf h c.lane
   pub cell : HadCell h c.lane.number obj field
 
+-- an active check that waits for a cell may read it: it has its lane and its evaluator, and the cell stood at its launch
 pub read_fits :
     (p : Program) (a : Agent) (r : Running) (i obj field : ℕ) (c : ActiveCheck) (t : IsTurnOf p a r)
     → slice_get r.checks.items i ≡ Some c
@@ -61,6 +62,7 @@ read_one shape p sizes s h obj field before after same r =
     let x : ReadOf p (heap_of_journal shape sizes s.journal) obj field before after = subst (λ (y : Snapshots). ReadOf p y obj field before after) same r in
     record { lane = x.lane; made = x.made; budget_is = x.budget_is; lost = x.lost; read = x.read }
 
+-- once the check has read its cell, the run in memory stands for the state after the check's turn
 pub read_stands :
     (p : Program) (i obj field : ℕ) (before after : Running) (c d : ActiveCheck) (t : IsTurnOf p (check (number_at before.checks.items i)) before)
     → slice_get before.checks.items i ≡ Some c

@@ -49,6 +49,7 @@ come_is_over p sizes launch e (Cell obj field) q come =
     sym (ap (λ (r : Progress). is_none (cell_after r (cells_of p sizes (Some launch)))) so.reads ∙ ap is_none so.next.cell)
 come_is_over p sizes launch e (Retire verdict) q come = sym (ap is_none come.0)
 
+-- a check in memory has its verdict exactly where the model says that it has finished
 pub over_is_finished :
     (shape : ShapeLists) (p : Program) (sizes : Sizes) (s : State) (c : ActiveCheck)
     → IsInMemory shape p sizes s c
@@ -146,6 +147,7 @@ get_of_images f (x ∷ xs) (suc i) = get_of_images f xs i
 same_test : (idle n lanes : ℕ) → idle + n ≡ lanes → nat_lt 0 idle ≡ nat_lt n lanes
 same_test idle n lanes e = grind (arith, nat_tests)
 
+-- who is chosen in memory, by the number and among all who are ready there, is the next agent of the model
 pub chosen_is_next :
     (shape : ShapeLists) (p : Program) (sizes : Sizes) (s : State) (seats : List Seat) (checks : List ActiveCheck) (idle : ℕ) (result : Option Agent)
     → IsWellFormed shape p
@@ -205,6 +207,7 @@ none_beyond [] i le = refl
 none_beyond (n ∷ ns) zero le = absurd (omega (arith, le))
 none_beyond (n ∷ ns) (suc i) le = none_beyond ns i (omega (arith, le))
 
+-- a check that is chosen stands at its place among the active checks
 pub chosen_check_is_there :
     (shape : ShapeLists) (p : Program) (sizes : Sizes) (s : State) (checks : List ActiveCheck) (i : ℕ)
     → IsWellFormed shape p
@@ -227,6 +230,7 @@ chosen_check_is_there shape p sizes s checks i formed sound h next = elim (cases
 
 -- ---- lists that are long enough
 
+-- no more threads are ready than there are
 pub ready_seats_are_few : (m : ℕ) (room : Bool) (seats : List Seat) → length (ready_seats m room seats) ≤ length seats
 ready_seats_are_few m room [] = omega arith
 ready_seats_are_few m room (seat ∷ seats) = by (can_turn (turn_of_want seat.want) room) (ready_seats_are_few (m + 1) room seats)
@@ -236,9 +240,11 @@ ready_seats_are_few m room (seat ∷ seats) = by (can_turn (turn_of_want seat.wa
     by true few = omega (arith, few)
     by false few = omega (arith, few)
 
+-- with no idle lane, a check can be launched exactly where some check has finished
 pub none_is_idle : (idle : ℕ) (checks : List ActiveCheck) → idle ≡ 0 → some_over checks ≡ has_room idle checks
 none_is_idle idle checks e = subst (λ (n : ℕ). some_over checks ≡ has_room n checks) (sym e) refl
 
+-- the first none of the agents are none
 pub none_taken : (agents : List Agent) → take 0 agents ≡ []
 none_taken [] = refl
 none_taken (a ∷ agents) = refl

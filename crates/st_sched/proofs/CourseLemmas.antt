@@ -84,6 +84,7 @@ pub record AwaitsNext (p : Program) (sizes : Sizes) (launch : Launched) (obj fie
   pub cell : slice_get (cells_of p sizes (Some launch)) k ≡ Some (record { obj = obj; field = field })
   pub onward : followed_from launch.past (turn_by p e (word_found launch.past obj field)) ≡ without_first (suc k) (whole_of p sizes launch)
 
+-- a check that waits for a cell, and before which it read k, has this cell as the next of all that it reads, and goes on from the one after
 pub next_of_come :
     (p : Program) (sizes : Sizes) (launch : Launched) (obj field : ℕ) (e : Eval) (k : ℕ)
     → left_of p launch.past obj field e ≡ without_first k (whole_of p sizes launch)

@@ -34,6 +34,7 @@ use Rattle.st_sched.proofs.SeatLemmas.{seat_asks}
 pub sound_is_history : (shape : ShapeLists) (p : Program) (sizes : Sizes) (s : State) → IsSoundState shape p sizes s → IsHistory shape sizes s.journal
 sound_is_history shape p sizes s h = record { legal = h.legal; paid = (sound_state_has_room shape p sizes s h).events }
 
+-- between two turns a run is one that a part of a turn may begin with
 abbrev pub way_is_under_way : (shape : ShapeLists) (p : Program) (sizes : Sizes) (start : State) (r : Running) → IsOnTheWay shape p sizes start r → IsUnderWay p r
 way_is_under_way shape p sizes start r h = record {
   shape = shape;
@@ -100,6 +101,7 @@ pub record Leaves (shape : ShapeLists) (p : Program) (sizes : Sizes) (s : State)
   pub all_verdicts : AreVerdicts shape p sizes (with_retires main (finished_in checks) s) verdicts
   pub is_main : main ≡ sizes.mutators
 
+-- what a run leaves once nobody can take a turn is what the model leaves: its journal, its verdicts, its ends and its free copies
 pub ran_is_left :
     (shape : ShapeLists) (p : Program) (sizes : Sizes) (s : State) (main : ℕ) (checks : List ActiveCheck) (seats : List Seat) (verdicts : List Verdict) (ran : RanLists)
     → IsWellFormed shape p

@@ -35,6 +35,7 @@ use Rattle.st_sched.proofs.RunLemmas.{SameRoom}
 
 -- ---- a turn is chosen, and taken
 
+-- a run between two turns, whose next agent is known, may begin that agent's turn
 abbrev pub turn_of_way :
     (shape : ShapeLists) (p : Program) (sizes : Sizes) (start : State) (r : Running) (a : Agent) (way : IsOnTheWay shape p sizes start r)
     → next_agent shape p sizes way.state ≡ Some a
@@ -46,6 +47,7 @@ turn_of_way shape p sizes start r a way next = record {
   next = next;
 }
 
+-- a run that has the same in memory is on the way too
 abbrev pub way_with :
     (shape : ShapeLists) (p : Program) (sizes : Sizes) (start : State) (before after : Running)
     → after.heap ≡ before.heap
@@ -72,6 +74,7 @@ number_of_turn : (shape : ShapeLists) (p : Program) (sizes : Sizes) (s : State) 
 number_of_turn shape p sizes s (mutator m) = refl
 number_of_turn shape p sizes s (check n) = refl
 
+-- a run that stands for the state after the chosen agent's turn is one turn further on its way
 pub way_after_turn :
     (shape : ShapeLists) (p : Program) (sizes : Sizes) (start : State) (before after : Running) (a : Agent) (way : IsOnTheWay shape p sizes start before)
     → next_agent shape p sizes way.state ≡ Some a
@@ -90,6 +93,7 @@ way_after_turn shape p sizes start before after a way next stands seats x = reco
   onward = λ end comes. way.onward end (by_turn way.state end a next comes);
 }
 
+-- on the way, who is chosen in memory by the next number is the next agent of the model
 pub chosen_on_way :
     (shape : ShapeLists) (p : Program) (sizes : Sizes) (start : State) (r : Running) (x : ℕ) (result : Option memory.Agent) (way : IsOnTheWay shape p sizes start r)
     → x ≡ number_after r.x
@@ -131,6 +135,7 @@ sums_are_same f g (c ∷ cs) h =
     let rest = sums_are_same f g cs h.1 in
     let here = h.0 in omega (arith, rest, here, sum_by-cons f c cs, sum_by-cons g c.lane.number (numbers cs))
 
+-- the reads that the checks in memory have left are as many as the model counts
 pub reads_are_left :
     (shape : ShapeLists) (p : Program) (sizes : Sizes) (s : State) (r : Running)
     → Stands shape p sizes s r

@@ -50,6 +50,7 @@ world_after_launch shape sizes s m site args =
     let one = world_after_one_more shape sizes s.journal (Launch m site n args) in
     (ap (λ (w : World). w.launched n) one ∙ at_same n (Some (launched_now shape sizes s m site args)) w.launched, ap (λ (w : World). w.active) one, ap (λ (w : World). w.epoch) one)
 
+-- where the journal with the launch is legal, the launch is legal in the world before it
 pub launch_is_legal_there :
     (shape : ShapeLists) (sizes : Sizes) (s : State) (m site : ℕ) (args : Args)
     → IsLegal shape sizes (with_launch shape sizes m site args s).journal
@@ -58,6 +59,7 @@ launch_is_legal_there shape sizes s m site args legal =
     legal_launch shape sizes (world_after shape sizes s.journal) m (epoch_of shape sizes s.journal + 1) site args
     (each_is_legal shape sizes s.journal [] (Launch m site (epoch_of shape sizes s.journal + 1) args) legal)
 
+-- the active checks after a launch: those before, each as it was, and the new one, which has read nothing yet
 pub checks_after_launch :
     (shape : ShapeLists) (p : Program) (sizes : Sizes) (s : State) (m site : ℕ) (args : Args) (checks : List ActiveCheck) (c : ActiveCheck)
     → IsWellFormed shape p
@@ -126,6 +128,7 @@ not_in_front ns ks k h = by (is_among ns k) refl
     by true e = let f : false ≡ true = sym h ∙ among_front ns ks k e in cc
     by false e = e
 
+-- after a launch there is one place more for a verdict, and the verdicts of retired checks stay
 pub verdicts_after_launch :
     (shape : ShapeLists) (p : Program) (sizes : Sizes) (s : State) (m site : ℕ) (args : Args) (verdicts : List Verdict) (v : Verdict)
     → IsWellFormed shape p

@@ -49,6 +49,7 @@ pub record IsOpened (p : Program) (sizes : Sizes) (r : Running) : Type 0 where
 no_verdicts : (shape : ShapeLists) (p : Program) (sizes : Sizes) (seed : ℕ) → AreVerdicts shape p sizes (first_state seed) []
 no_verdicts shape p sizes seed = record { count = refl; retired = λ n one most gone. absurd (omega (arith, one, most)) }
 
+-- a run that is opened stands for the first state of its seed, and may take its first turn
 pub opened_is_on_the_way :
     (shape : ShapeLists) (p : Program) (sizes : Sizes) (seed : ℕ) (r : Running)
     → IsWellFormed shape p

@@ -39,6 +39,7 @@ pub record HasReadSo (p : Program) (sizes : Sizes) (launch : Launched) (obj fiel
   pub reads : q ≡ has_read k
   pub next : AwaitsNext p sizes launch obj field e k
 
+-- a check that waits for a cell is not abandoned: it has read so many cells, and this one is next
 pub has_read_so :
     (p : Program) (sizes : Sizes) (launch : Launched) (obj field : ℕ) (e : Eval) (q : Progress)
     → HasCome p sizes launch e (Cell obj field) q
@@ -178,6 +179,7 @@ rising_apart (n ∷ ns) (suc k) (suc i) rising lt lt' differ = rising_apart ns k
 number_of : (checks : List ActiveCheck) (k : ℕ) (d : ActiveCheck) → k < length checks → number_at checks k ≡ (get_or checks k d).lane.number
 number_of checks k d lt = number_is_at checks k (get_or checks k d) (slice_get-get_or checks k d lt)
 
+-- the active checks after the turn of one of them: it has come one read further, and each other one stays as it was
 pub checks_after_read :
     (shape : ShapeLists) (p : Program) (sizes : Sizes) (s : State) (checks : List ActiveCheck) (i obj field : ℕ) (before after : ActiveCheck)
     → IsWellFormed shape p
@@ -235,6 +237,7 @@ checks_after_read shape p sizes s checks i obj field before after formed limits 
         check_stays shape p sizes s later (get_or checks k d) (λ lane. lane) (λ l e. e)
         (at_other (number_at checks i) (read_progress shape p sizes s (number_at checks i)) s.progress (get_or checks k d).lane.number other) (h.each k d lt)
 
+-- a read of an active check changes no verdict of a retired one
 pub verdicts_after_read :
     (shape : ShapeLists) (p : Program) (sizes : Sizes) (s : State) (verdicts : List Verdict) (n : ℕ)
     → is_among (active_checks shape sizes s.journal) n ≡ true

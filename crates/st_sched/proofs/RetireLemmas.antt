@@ -71,6 +71,7 @@ numbers_but_one (c ∷ checks) (suc i) = ap (λ (ns : List ℕ). c.lane.number �
 
 -- ---- what is in memory stays so
 
+-- a check stays in memory in a later state with the same progress of it, where it keeps its lane and its launch
 pub check_stays :
     (shape : ShapeLists) (p : Program) (sizes : Sizes) (s later : State) (c : ActiveCheck)
     → (IsLaneOf (heap_of_journal shape sizes s.journal) c.lane → IsLaneOf (heap_of_journal shape sizes later.journal) c.lane)
@@ -100,6 +101,7 @@ number_is_among (c ∷ cs) zero d lt = or_first (c.lane.number == c.lane.number)
 number_is_among (c ∷ cs) (suc k) d lt =
     or_second (c.lane.number == (get_or cs k d).lane.number) (is_among (numbers cs) (get_or cs k d).lane.number) (number_is_among cs k d (omega (arith, lt)))
 
+-- there are as many numbers as checks
 pub length_of_numbers : (checks : List ActiveCheck) → length (numbers checks) ≡ length checks
 length_of_numbers [] = refl
 length_of_numbers (c ∷ cs) = ap suc (length_of_numbers cs)
@@ -116,6 +118,7 @@ world_after_retire shape sizes s m n =
     let one = world_after_one_more shape sizes s.journal (Retire m n) in
     ((λ k. ap (λ (w : World). w.launched k) one), ap (λ (w : World). w.active) one, ap (λ (w : World). w.epoch) one)
 
+-- the active checks after one of them is retired: those at all other places, in order, each as it was
 pub checks_after_retire :
     (shape : ShapeLists) (p : Program) (sizes : Sizes) (s : State) (m : ℕ) (checks : List ActiveCheck) (i : ℕ)
     → IsRising (active_checks shape sizes s.journal)
@@ -168,6 +171,7 @@ get_set_elsewhere (x ∷ xs) zero (suc k) v differ = refl
 get_set_elsewhere (x ∷ xs) (suc i) zero v differ = refl
 get_set_elsewhere (x ∷ xs) (suc i) (suc k) v differ = get_set_elsewhere xs i k v (λ same. differ (ap suc same))
 
+-- the check at each place is active in the journal's world
 pub active_is_there :
     (shape : ShapeLists) (p : Program) (sizes : Sizes) (s : State) (checks : List ActiveCheck) (i : ℕ)
     → AreChecks shape p sizes s checks → i < length checks → is_among (active_checks shape sizes s.journal) (number_at checks i) ≡ true
@@ -181,6 +185,7 @@ not_among ns k n differ h = by (is_among ns k) refl
     by true e = let f : false ≡ true = sym h ∙ without_is_among n ns k e differ in cc
     by false e = e
 
+-- once a check is retired, its verdict stands at its number, and those of the checks before it stay
 pub verdicts_after_retire :
     (shape : ShapeLists) (p : Program) (sizes : Sizes) (s : State) (m : ℕ) (checks : List ActiveCheck) (i : ℕ) (verdicts : List Verdict) (verdict : Verdict)
     → AreActive sizes (world_after shape sizes s.journal)
@@ -192,7 +197,8 @@ verdicts_after_retire shape p sizes s m checks i verdicts verdict active h at v 
   count = length-set verdicts (n - 1) verdict ∙ v.count ∙ sym world.2;
   retired = λ k one most gone. elim (eqb_tells k n) [
     | inl same ↦ subst (HasVerdict shape p sizes later set_verdicts) (sym same.1) mine
-    | inr differ ↦ other k one (subst (λ (e : ℕ). k ≤ e) world.2 most) differ.1 (not_among (active_checks shape sizes s.journal) k n differ.1 (ap (λ (ns : List ℕ). is_among ns k) (sym world.1) ∙ gone))
+    | inr differ ↦ other k one (subst (λ (e : ℕ). k ≤ e) world.2 most) differ.1
+        (not_among (active_checks shape sizes s.journal) k n differ.1 (ap (λ (ns : List ℕ). is_among ns k) (sym world.1) ∙ gone))
   ];
 }
   where

@@ -61,6 +61,7 @@ retire_is_possible p r i verdict t at =
       subst (λ (s : Snapshots). IsLaneOf s at.0.lane) (sym t.stands.heap) (memory_at t.shape p t.sizes t.state r.checks.items i at.0 t.stands.checks at.1).lane,
     )
 
+-- a run in which a check is taken out, its verdict kept and its evaluator idle stands for the state in which the check is retired
 pub retire_stands :
     (p : Program) (before after : Running) (m i : ℕ) (verdict : Verdict) (lane : Lane) (eval : Eval)
     → (t : IsUnderWay p before)
@@ -198,6 +199,7 @@ finished_there (x ∷ xs) zero c at =
     by false false e = refl
 finished_there (x ∷ xs) (suc i) c at = finished_there xs i c at
 
+-- the finished checks from a place on: the one at the place, where it has finished, and then those behind it
 pub finished_from :
     (checks : List ActiveCheck) (i : ℕ) (c : ActiveCheck) (b : Bool)
     → slice_get checks i ≡ Some c

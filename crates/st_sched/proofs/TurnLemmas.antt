@@ -47,6 +47,7 @@ use Rattle.st_sched.proofs.SeatLemmas.{seat_asks, seats_after_turn}
 abbrev pub after_turn : (p : Program) (a : Agent) (r : Running) → IsTurnOf p a r → State
 after_turn p a r t = turn_of t.run.shape p t.run.sizes t.run.state a
 
+-- the turn of the agent that is chosen leaves a sound state: so its journal is legal
 pub after_is_sound : (p : Program) (a : Agent) (r : Running) (t : IsTurnOf p a r) → IsSoundState t.run.shape p t.run.sizes (after_turn p a r t)
 after_is_sound p a r t =
     turn_keeps_sound t.run.shape p t.run.formed t.run.sizes t.run.state a t.sound (chosen_is_ready t.run.shape p t.run.sizes t.run.state a t.next)
@@ -81,6 +82,7 @@ pub record PlainTurn (shape : ShapeLists) (p : Program) (sizes : Sizes) (s : Sta
   pub event : event_of_want (heap_of_journal shape sizes s.journal) m w ≡ event_of sizes (world_after shape sizes s.journal) m request
   pub journal : (turn_of shape p sizes s (mutator m)).journal ≡ s.journal ++ event_of_want (heap_of_journal shape sizes s.journal) m w ∷ []
 
+-- a thread that asks for no launch makes one event, and it is the one that its request gives
 pub plain_turn :
     (p : Program) (m : ℕ) (w : Want) (r : Running) (t : IsTurnOf p (mutator m) r)
     → HasSeat r.seats.items m w
@@ -108,6 +110,7 @@ pub record AnswerFits (s : Snapshots) (m : ℕ) (w : Want) : Type 0 where
   pub legal : CanAnswer s m w
   pub spare : HasSpare s
 
+-- what a thread asks for can be done: its event is legal in the heap, and the journal has room for it
 pub answer_fits :
     (p : Program) (m : ℕ) (w : Want) (r : Running) (t : IsTurnOf p (mutator m) r)
     → HasSeat r.seats.items m w
@@ -141,6 +144,7 @@ plain_world shape sizes w s m (want.Cas obj field expect value) h = by (is_word 
 plain_world shape sizes w s m (want.Launch site args) h = absurd h
 plain_world shape sizes w s m (want.End end) h = absurd h
 
+-- once the event is done and nothing else changed, the run in memory stands for the state after the thread's turn
 pub answer_stands :
     (p : Program) (m : ℕ) (w : Want) (before after : Running) (t : IsTurnOf p (mutator m) before)
     → HasSeat before.seats.items m w
@@ -359,6 +363,7 @@ stands_by_journal shape p sizes s x r h = record {
   room = h.room;
 }
 
+-- once the checks that finished are retired and the new one is launched, the run in memory stands for the state after the turn
 pub launch_stands_after :
     (p : Program) (m site : ℕ) (args : Args) (before after : Running) (t : IsTurnOf p (mutator m) before)
     → HasSeat before.seats.items m (want.Launch site args)
