@@ -39,6 +39,7 @@ alone cond then site depth a b c h k =
     ∙ append_assoc a (lines_text (head cond depth ∷ [])) (lines_text (block_lines then depth))
     ∙ ap (λ l. a ++ l) (lines_join (head cond depth ∷ []) (block_lines then depth)) ∙ ap (λ ls. a ++ lines_text ls) (sym (lines_are cond then site depth))
 
+-- an `if` without `else` is written as soon as its first line and its block are
 pub if_alone : (s : Stmt) (cond : Expr) (then body : List Stmt) (other : Option (List Stmt)) (site : Site) (depth : ℕ) (a b c : List ℕ)
     → s ≡ If cond then other site → other ≡ None → body ≡ then
     → b ≡ a ++ lines_text (line depth (front_words (out-Stmt s) ++ last_word (out-Stmt s) ∷ []) ∷ [])

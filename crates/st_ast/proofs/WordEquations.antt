@@ -18,11 +18,13 @@ pub words_of_layer : (x : Expr-F Expr) → expr_words (roll-Expr x) ≡ expr_lay
 unfolding expr_words
 words_of_layer x = fold-roll-Expr (List Word) expr_layer x
 
+-- a call is written as its name and its arguments in parentheses
 pub words_of_call : (name : List ℕ) (args : List Expr) (site : Site)
     → expr_words (expr.Call name args site) ≡ call_words name args
 words_of_call name args site =
     ap expr_words (sym (expr.rolls-Call name args site)) ∙ words_of_layer (Expr-F.Call name args site)
 
+-- a truth value is written as its layer says, since it has no expression inside
 pub words_of_truth : (b : Bool) (site : Site) → expr_words (expr.Truth b site) ≡ expr_layer (Expr-F.Truth b site)
 words_of_truth b site = ap expr_words (sym (expr.rolls-Truth b site)) ∙ words_of_layer (Expr-F.Truth b site)
 

@@ -15,6 +15,7 @@ pub spaced_join : (x y : List Word) → spaced x ++ spaced y ≡ spaced (x ++ y)
 unfolding spaced
 spaced_join x y = sym (flat_map-append _ x y)
 
+-- no words leave nothing written
 pub spaced_none : spaced [] ≡ []
 unfolding spaced
 spaced_none = refl
@@ -58,6 +59,7 @@ pub lines_join : (x y : List Line) → lines_text x ++ lines_text y ≡ lines_te
 unfolding lines_text
 lines_join x y = sym (flat_map-append line_text x y)
 
+-- no lines are an empty text
 pub lines_none : lines_text [] ≡ []
 unfolding lines_text
 lines_none = refl
@@ -125,10 +127,12 @@ pub last_as : {T E : Type 0} (r : Result T E) (front : List Word) (depth : ℕ) 
 last_as (Ok t) front depth last other a e same h = h ∙ ap (λ w. a ++ lines_text (line depth (front ++ w ∷ []) ∷ [])) same
 last_as (Err t) front depth last other a e same h = tt
 
+-- without shared variables there is no shared block
 pub shared_none : (fields : List Field) → length fields ≡ 0 → shared_lines fields ≡ []
 shared_none [] e = refl
 shared_none (first ∷ more) e = absurd (omega arith)
 
+-- with a shared variable there is a block: its head, and then the variables
 pub shared_some : (fields : List Field) → 0 < length fields
     → shared_lines fields ≡ line 0 (codes "shared" ∷ codes "{" ∷ []) ∷ fields_lines fields
 shared_some [] some = absurd (omega arith)

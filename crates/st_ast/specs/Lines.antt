@@ -16,6 +16,7 @@ pub record Line : Type 0 where
   pub depth : ℕ
   pub words : List Word
 
+-- so many braces are open before these words
 abbrev pub line : ℕ → List Word → Line
 line depth words = record { depth = depth; words = words }
 
@@ -82,9 +83,11 @@ block_lines body depth = stmts_lines body (depth + 1) ++ closing depth ∷ []
 
 -- ---- declarations
 
+-- a field or a shared variable has a line of its own, inside of one brace
 abbrev pub field_line : Field → Line
 field_line field = line 1 (field.name ∷ codes ":" ∷ type_word field.kind ∷ codes ";" ∷ [])
 
+-- a line for each field, in their order
 abbrev pub each_field : List Field → List Line
 each_field = flat_map (λ field. field_line field ∷ [])
 
@@ -92,6 +95,7 @@ each_field = flat_map (λ field. field_line field ∷ [])
 abbrev pub fields_lines : List Field → List Line
 fields_lines fields = each_field fields ++ closing 0 ∷ []
 
+-- a class: its head, its fields, the closing brace
 abbrev pub class_lines : Class → List Line
 class_lines class = line 0 (codes "class" ∷ class.name ∷ codes "{" ∷ []) ∷ fields_lines class.fields
 
@@ -100,22 +104,28 @@ abbrev pub shared_lines : List Field → List Line
 shared_lines [] = []
 shared_lines (first ∷ more) = line 0 (codes "shared" ∷ codes "{" ∷ []) ∷ fields_lines (first ∷ more)
 
+-- a predicate but for the `;` at its end
 abbrev pub pred_words : Pred → List Word
 pred_words pred =
     codes "pred" ∷ pred.name ∷ in_parens (params_words pred.params) ++ codes ":" ∷ type_word pred.result ∷ codes "=" ∷ expr_words pred.body
 
+-- a predicate stands on one line
 abbrev pub pred_lines : Pred → List Line
 pred_lines pred = line 0 (pred_words pred ++ codes ";" ∷ []) ∷ []
 
+-- the head of a procedure but for its brace
 abbrev pub proc_words : Proc → List Word
 proc_words proc = codes "proc" ∷ proc.name ∷ in_parens (params_words proc.params)
 
+-- the first line of a procedure, which opens its brace
 abbrev pub proc_head : Proc → Line
 proc_head proc = line 0 (proc_words proc ++ codes "{" ∷ [])
 
+-- a procedure: its head, its statements, the closing brace
 abbrev pub proc_lines : Proc → List Line
 proc_lines proc = proc_head proc ∷ block_lines proc.body 0
 
+-- a thread: its head, its statements, the closing brace
 abbrev pub thread_lines : Thread → List Line
 thread_lines thread = line 0 (codes "thread" ∷ thread.name ∷ codes "{" ∷ []) ∷ block_lines thread.body 0
 

@@ -16,6 +16,7 @@ use Rattle.st_ast.specs.declared.statements.Value.TheVariants as value
 abbrev pub Word : Type 0
 Word = List ℕ
 
+-- how an operator is spelled
 abbrev pub op_word : Op → Word
 op_word op.Add = codes "+"
 op_word op.Sub = codes "-"
@@ -31,11 +32,13 @@ op_word op.NotEqual = codes "!="
 op_word op.Both = codes "&&"
 op_word op.Either = codes "||"
 
+-- how a type is spelled; a class by its name
 abbrev pub type_word : TypeName → Word
 type_word types.Int = codes "int"
 type_word types.Bool = codes "bool"
 type_word (types.Class name site) = name
 
+-- how a truth value is spelled
 abbrev pub truth_word : Bool → Word
 truth_word true = codes "true"
 truth_word false = codes "false"
@@ -49,6 +52,7 @@ abbrev pub listed : List (List Word) → List Word
 listed [] = []
 listed (first ∷ more) = first ++ after_commas more
 
+-- words with a parenthesis before and behind them
 abbrev pub in_parens : List Word → List Word
 in_parens words = codes "(" ∷ words ++ codes ")" ∷ []
 
@@ -75,6 +79,7 @@ expr_words e = fold-Expr (List Word) expr_layer e
 abbrev pub args_words : List Expr → List Word
 args_words args = listed (map expr_words args)
 
+-- a call of a predicate or a procedure: the name, and the arguments in parentheses
 abbrev pub call_words : List ℕ → List Expr → List Word
 call_words name args = name ∷ in_parens (args_words args)
 
@@ -85,6 +90,7 @@ value_words (value.New class site) = codes "new" ∷ class ∷ []
 value_words (value.Cas place expect e site) =
     codes "cas" ∷ in_parens (expr_words place ++ codes "," ∷ expr_words expect ++ codes "," ∷ expr_words e)
 
+-- a parameter, with its type after a colon
 abbrev pub param_words : Param → List Word
 param_words param = param.name ∷ codes ":" ∷ type_word param.kind ∷ []
 

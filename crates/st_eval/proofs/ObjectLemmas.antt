@@ -24,6 +24,7 @@ small_number :
 small_number heap obj field word None small is found = cc
 small_number heap obj field word (Some x) small is found = small obj x is
 
+-- each cell that a check reads on a typed heap is there, so its object has a number of 32 bits
 pub objects_are_told : TellEachObject
 objects_are_told shape p heap site kinds args calls k cell right typed small e fit at =
     let cells = recursion_from_All (IsTypedCell shape heap) (cells_read p heap site args calls)

@@ -33,6 +33,7 @@ abbrev pub Else : List Instruction → ℕ → Activations → Type 0
 Else code most s =
     Wait code most (length s.running.locals) s.waiting × (length s.waiting ≤ MOST_DEPTH) × ((MOST_DEPTH + 1) * most + MOST_ARGS ≤ s.words_room) × (MOST_DEPTH ≤ s.calls_room)
 
+-- what has room has also all that concerns other bodies than the running one
 pub else_of : (code : List Instruction) (most : ℕ) (s : Activations) (n : ℕ) → HasRoom code most s n → Else code most s
 else_of code most s n h = (h.waiting, h.depth, h.words_room, h.calls_room)
 

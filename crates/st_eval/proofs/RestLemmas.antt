@@ -31,6 +31,7 @@ use Rattle.st_eval.proofs.BodyLemmas.{body_is}
 pub same_true : (a b : ℕ) → (a == b) ≡ true → a ≡ b
 same_true a b h = grind (arith, nat_tests)
 
+-- a failed test of two numbers says that they differ
 pub other_false : (a b : ℕ) → (a == b) ≡ false → a ≢ b
 other_false a b h = grind (arith, nat_tests)
 

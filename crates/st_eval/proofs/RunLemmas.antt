@@ -53,6 +53,7 @@ progress p code turn s units made before =
 abbrev pub Tells : ProgramCode → Activations → ℕ → Option Ask → Activations → ℕ → Type 0
 Tells code s units answer after left = narrow (step code.instructions code.preds s units) ≡ told answer after left
 
+-- the same told with the code's own instructions and places, and with the answer by another name
 pub tells :
     (code : ProgramCode) (s : Activations) (units : ℕ) (is : List Instruction) (spans : List Span)
     (answer known : Option Ask) (after : Activations) (left : ℕ)
@@ -81,6 +82,7 @@ on_from p code turn bound (goes_on s units) after left h e =
 on_from p code turn bound (asks_for obj field s units) after left h e = cc
 on_from p code turn bound (ends plain s) after left h e = cc
 
+-- a step that gives no answer leaves what the loop begins its next turn with, and less to do
 pub run_on :
     (p : Program) (code : ProgramCode) (turn : Turn) (s : Activations) (units : ℕ) (after : Activations) (left : ℕ)
     → IsCodeOf p code
@@ -118,6 +120,7 @@ answer_from p code turn bound (ends found s) (Done plain) after left h e =
     let a : s ≡ after = cc in
     record { turns = h.turns ∙ ap is_over k; leaves = subst (λ x. HasRooms code.most_words x) a h.ready }
 
+-- a step that gives an answer gives that of the turn, and leaves the room that an answer asks for
 pub run_answers :
     (p : Program) (code : ProgramCode) (turn : Turn) (s : Activations) (units : ℕ) (ask : Ask) (after : Activations) (left : ℕ)
     → IsCodeOf p code

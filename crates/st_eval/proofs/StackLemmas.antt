@@ -211,6 +211,7 @@ pub record IsPopped (f : Frame) (waiting : List Frame) (new : List ℕ) (o : Opt
   pub word : unwrap_or o 0 ≡ top_word s
   pub room : held_in_all (stacked (record f { words = f.words - 1 }) waiting new a b) ≤ a
 
+-- the code takes the last word of a stack that has one: that is the top word, and what is left is the activations without it
 pub popped_from :
     (f : Frame) (waiting : List Frame) (old new : List ℕ) (o : Option ℕ) (was a b : ℕ) (s : Activations)
     → stacked f waiting old was b ≡ s

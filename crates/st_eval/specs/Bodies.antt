@@ -19,6 +19,7 @@ AreBodies code most spans ts = ⊥
 abbrev pub predicate_bodies : List Predicate → List Term
 predicate_bodies = map (λ (q : Predicate). q.body)
 
+-- the body of each check statement, by site
 abbrev pub check_bodies : List CheckStatement → List Term
 check_bodies = map (λ (k : CheckStatement). k.body)
 

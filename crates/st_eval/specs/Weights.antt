@@ -8,6 +8,7 @@ use Rattle.st_eval.specs.Steps.{part}
 abbrev pub weight_of : List Instruction → Activation → ℕ
 weight_of code a = suc (length (part code a.place a.end))
 
+-- the bodies that wait for a result, together
 abbrev pub weight_waiting : List Instruction → List Activation → ℕ
 weight_waiting code [] = 0
 weight_waiting code (a ∷ waiting) = weight_of code a + weight_waiting code waiting

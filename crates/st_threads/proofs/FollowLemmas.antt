@@ -62,6 +62,7 @@ before_after p sizes thread replies (f ∷ es) fs e turn h =
       subst (IsAnswerTo e) same rest.1,
     )
 
+-- where a thread is, is found from the replies in its events alone
 pub events_lead_by_replies : LeadByReplies
 unfolding LeadTo
 events_lead_by_replies = record {
@@ -80,6 +81,7 @@ no_answer_to_end (Cas m obj field expect value done) end h = cc
 no_answer_to_end (Launch m site number args) end h = cc
 no_answer_to_end (Retire m number) end h = h
 
+-- the events fix what comes next, so there is one end, and an end is answered by no event
 pub threads_have_one_end : HaveOneEnd
 unfolding Follows LeadTo
 threads_have_one_end = record {
@@ -94,6 +96,7 @@ abbrev pub LeadsFrom : List Event → Deed → Turn → Type 0
 LeadsFrom [] deed turn = turn_of deed ≡ turn
 LeadsFrom (e ∷ es) deed turn = IsAnswerTo e (turn_of deed) × LeadsFrom es (deed_after (reply_of e ∷ []) deed) turn
 
+-- events that lead on after some replies lead on from the deed that is left after these
 pub leads_from :
     (p : Program) (sizes : Sizes) (thread : ℕ) (replies : List ℕ) (es : List Event) (turn : Turn)
     → LeadsAfter p sizes thread replies es turn

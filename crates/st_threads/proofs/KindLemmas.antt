@@ -18,12 +18,14 @@ use Rattle.st_threads.specs.Typed.{GoesOn}
 pub goes_on_itself : (shape : ShapeLists) (heap : Heap) → IsTypedHeap shape heap → GoesOn shape heap heap
 goes_on_itself shape heap h = record { extends = record { object = λ obj x e. (x, e, refl, refl) }; typed = h }
 
+-- a heap that goes on twice has gone on
 pub goes_on_further : (shape : ShapeLists) (a b c : Heap) → GoesOn shape a b → GoesOn shape b c → GoesOn shape a c
 goes_on_further shape a b c g h = record {
   extends = record { object = λ obj x e. let y = g.extends.object obj x e in let z = h.extends.object obj y.0 y.1 in (z.0, z.1, z.2 ∙ y.2, z.3 ∙ y.3) };
   typed = h.typed;
 }
 
+-- an object keeps its class while the heap grows
 pub classes_stay : (a b : Heap) → Extends a b → KeepsClasses a b
 classes_stay a b g = record {
   kept = λ obj class e.
@@ -32,9 +34,11 @@ classes_stay a b g = record {
       rw y.1 (ap Some (y.2 ∙ o.of_class));
 }
 
+-- a word that has a kind has it later on as well
 pub kind_stays : (shape : ShapeLists) (a b : Heap) (kind : Kind) (word : ℕ) → GoesOn shape a b → IsOfKind a kind word → IsOfKind b kind word
 kind_stays shape a b kind word g h = kept_has_kind a b (classes_stay a b g.extends) kind word h
 
+-- the same for words one by one, each with its kind
 pub kinds_stay : (shape : ShapeLists) (a b : Heap) (kinds : List Kind) (words : List ℕ) → GoesOn shape a b → AreOfKinds a kinds words → AreOfKinds b kinds words
 kinds_stay shape a b [] words g h = refl
 kinds_stay shape a b (kind ∷ kinds) [] g h = absurd (cc)
@@ -49,6 +53,7 @@ pub record IsCell (shape : ShapeLists) (heap : Heap) (obj field : ℕ) : Type 0 
   pub word : ℕ
   pub has : slice_get object.words field ≡ Some word
 
+-- where a field of an object has a word, there is the object
 pub cell_of_word : (shape : ShapeLists) (heap : Heap) (obj field : ℕ) → IsSome (word_at heap obj field) → IsCell shape heap obj field
 cell_of_word shape heap obj field h = by (heap obj) refl
   where
@@ -60,9 +65,11 @@ cell_of_word shape heap obj field h = by (heap obj) refl
     by None e = absurd (let none : IsSome (word_of None field) = subst (λ (x : Option Object). IsSome (word_of x field)) e h in cc)
     by (Some x) e = of_word x e (slice_get x.words field) refl (subst (λ (y : Option Object). IsSome (word_of y field)) e h)
 
+-- a cell with a known word exists
 pub some_word : (heap : Heap) (obj field word : ℕ) → word_at heap obj field ≡ Some word → IsSome (word_at heap obj field)
 some_word heap obj field word e = rw e refl
 
+-- a cell that exists is there later on as well
 pub cell_stays : (shape : ShapeLists) (a b : Heap) (obj field : ℕ) → GoesOn shape a b → IsSome (word_at a obj field) → IsSome (word_at b obj field)
 cell_stays shape a b obj field g h =
     let c = cell_of_word shape a obj field h in
@@ -71,6 +78,7 @@ cell_stays shape a b obj field g h =
     some_word b obj field (get_or y.0.words field 0)
     (ap (λ (o : Option Object). word_of o field) y.1 ∙ slice_get-get_or y.0.words field 0 (omega (arith, within, y.3)))
 
+-- the kind that a field of an object has stays
 pub kind_of_field_stays :
     (shape : ShapeLists) (a b : Heap) (obj field : ℕ) (kind : Kind)
     → GoesOn shape a b
@@ -86,6 +94,7 @@ kind_of_field_stays shape a b obj field kind g h = by (a obj) refl
         ∙ ap (λ (c : ℕ). slice_get (kinds_of shape c) field) y.2
         ∙ sym (ap (λ (o : Option Object). kind_of_field shape o field) e) ∙ h
 
+-- a word that may stand in a cell may stand in it later on
 pub fits_stays :
     (shape : ShapeLists) (a b : Heap) (obj field word : ℕ)
     → GoesOn shape a b
@@ -107,6 +116,7 @@ pub fits_of_kind :
     → fits_cell shape heap obj field word ≡ true
 fits_of_kind shape heap obj field kind word e h = ap (λ (k : Option Kind). has_kind_if_any heap k word) e ∙ h
 
+-- a word that may stand in a cell has the cell's kind
 pub kind_of_fitting :
     (shape : ShapeLists) (heap : Heap) (obj field : ℕ) (kind : Kind) (word : ℕ)
     → kind_of_field shape (heap obj) field ≡ Some kind

@@ -38,6 +38,7 @@ LooksBelow {A} step =
 abbrev pub paid : ℕ → Means → Means
 paid cost means = record means { charge = means.charge - cost }
 
+-- what is paid for is the same where the rest does the same with the charge that is left
 pub paying_same :
     (cost : ℕ) (means : Means) (rest other : Means → Deed)
     → rest (paid cost means) ≡ other (paid cost means)
@@ -61,6 +62,7 @@ pub one_turn_spent :
 one_turn_spent test body again locals means rest h =
     paying_spent TURN_COST means (λ spent. test locals spent (λ word left. elim (is_true word) [ true ↦ body locals left again | false ↦ rest locals left ])) (omega (arith, h))
 
+-- asking is the same where the rests are, with no more charge
 pub asking_same :
     (request : Request) (means : Means) (rest other : ℕ → Means → Deed)
     → SameBelow means.charge rest other
@@ -69,6 +71,7 @@ asking_same request means rest other h =
     paying_same (cost_of request) means (λ left. asks request (λ reply. rest reply left)) (λ left. asks request (λ reply. other reply left))
     (ap (asks request) (fun_ext (λ reply. h reply (paid (cost_of request) means) (omega arith))))
 
+-- so is a course, done read by read
 pub evaluating_same :
     {A : Type 0} (c : Course A) (means : Means) (rest other : A → Means → Deed)
     → SameBelow means.charge rest other
@@ -80,13 +83,16 @@ evaluating_same (reads obj field next) means rest other h =
     (λ word left le. evaluating_same (next word) left rest other (λ x m le'. h x m (omega (arith, le, le'))))
 evaluating_same (uses_unit next) means rest other h = evaluating_same (next tt) means rest other h
 
+-- an expression looks at what comes behind with no more charge
 pub term_same : (t : Term) → LooksBelow (term_deed t)
 term_same t locals means rest other h = evaluating_same (course_of no_calls t locals) means rest other h
 
+-- so does the object of a target
 pub object_same : (target : Target) → LooksBelow (object_deed target)
 object_same (to_shared field) locals means rest other h = h SHARED_OBJECT means (omega arith)
 object_same (to_field object field at) locals means rest other h = term_same object locals means rest other h
 
+-- the event on a target is the same where the rests are, with no more charge
 pub target_same :
     (target : Target) (obj : ℕ) (request : ℕ → ℕ → Request) (means : Means) (rest other : ℕ → Means → Deed)
     → SameBelow means.charge rest other
@@ -96,6 +102,7 @@ target_same (to_field object field at) obj request means rest other h =
     branches_same (obj == 0) (ends (Null at)) (ends (Null at)) (asking (request obj field) means rest) (asking (request obj field) means other) refl
     (asking_same (request obj field) means rest other h)
 
+-- so is a `new`
 pub new_same :
     (class : ℕ) (at : Site) (means : Means) (rest other : ℕ → Means → Deed)
     → SameBelow means.charge rest other
@@ -107,6 +114,7 @@ new_same class at means rest other h =
     made : (ℕ → Means → Deed) → ℕ → Means → Deed
     made r obj left = r obj (record left { room = left.room - 1 })
 
+-- what a statement stores looks at what comes behind with no more charge
 pub source_same : (source : Source) → LooksBelow (source_deed source)
 source_same (from_term t) locals means rest other h = term_same t locals means rest other h
 source_same (from_new class at) locals means rest other h = new_same class at means rest other h

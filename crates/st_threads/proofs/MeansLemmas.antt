@@ -248,6 +248,7 @@ used (e ∷ es) (asks request next) turn means h within =
     let count = counted e es request h.0 in
     (omega (arith, rest.0, count.0, within.0), omega (arith, rest.1, count.1, within.1))
 
+-- each event is paid for before it is asked for, and each new object takes one of the region's places
 pub threads_keep_within_means : KeepWithinMeans
 unfolding LeadTo
 threads_keep_within_means = record {

@@ -17,6 +17,7 @@ more_may_be_lost : (p : Program) → AllowsMoreLost (IsRightOf p)
 more_may_be_lost p sizes launch lost more (Value plain) h right = right
 more_may_be_lost p sizes launch lost more (Abandoned obj) h right = (h obj right.0, right.1)
 
+-- a right verdict is judged by the launch and by what is lost, and more loss allows no less
 pub verdicts_make_a_judge : JudgeByHeaps
 unfolding IsRightVerdict
 verdicts_make_a_judge shape p limits = judged_by_launch (IsRightOf p) (more_may_be_lost p) shape limits
@@ -32,6 +33,7 @@ plain_without_loss p sizes (Some launch) pairs number (Value plain) e right = tt
 plain_without_loss p sizes (Some launch) pairs number (Abandoned obj) e right =
     let none : is_lost [] obj number ≡ true = subst (λ (ps : List Pair). is_lost ps obj number ≡ true) e right.0 in cc
 
+-- so large a pool loses nothing, so no right verdict says that a check was abandoned
 pub copies_abandon_nothing : AbandonNothingWithCopies
 unfolding IsRightVerdict
 copies_abandon_nothing shape p sizes limits es number verdict legal enough right =

@@ -39,6 +39,7 @@ IsTypedCourse shape right (reads obj field next) heap =
     × ((later : Heap) → GoesOn shape heap later → (word : ℕ) → fits_cell shape later obj field word ≡ true → IsTypedCourse shape right (next word) later)
 IsTypedCourse shape right (uses_unit next) heap = IsTypedCourse shape right (next tt) heap
 
+-- a typed course and then another is typed, where the second is on every later heap, with what the first may come to
 pub then_is_typed :
     (shape : ShapeLists) {A B : Type 0} (P : Heap → A → Type 0) (Q : Heap → B → Type 0) (c : Course A) (rest : A → Course B) (heap : Heap)
     → IsTypedHeap shape heap
@@ -58,6 +59,7 @@ then_is_typed shape P Q (uses_unit next) rest heap typed h k = then_is_typed sha
 abbrev pub Behind : ShapeLists → Heap → {A : Type 0} → (Heap → A → Type 0) → (A → Means → Deed) → Type 0
 Behind shape heap {A} P rest = (later : Heap) → GoesOn shape heap later → (x : A) → P later x → (means : Means) → IsTyped shape (rest x means) later
 
+-- what is typed on every later heap is so from any of them on
 pub later_behind :
     (shape : ShapeLists) (heap later : Heap) {A : Type 0} (P : Heap → A → Type 0) (rest : A → Means → Deed)
     → GoesOn shape heap later
@@ -80,6 +82,7 @@ asking_is_typed shape request heap means rest right h = by (nat_lt means.charge 
     by true = tt
     by false = (right, λ later g reply fit. h later g reply fit left)
 
+-- a typed course is a typed deed: each of its reads asks for a cell that exists
 pub evaluating_is_typed :
     (shape : ShapeLists) {A : Type 0} (P : Heap → A → Type 0) (c : Course A) (heap : Heap) (means : Means) (rest : A → Means → Deed)
     → IsTypedHeap shape heap
@@ -184,6 +187,7 @@ null_has_kind heap (Ref class) h = refl
 no_predicate : {pred : Predicate} (n : ℕ) → slice_get {X = Predicate} [] n ≡ Some pred → ⊥
 no_predicate n e = cc
 
+-- an expression of a kind asks for cells that exist, and comes to a word of that kind on the heap as it is then
 pub term_is_typed :
     (shape : ShapeLists) (kinds : List Kind) (locals : List ℕ) (heap : Heap)
     → IsTypedHeap shape heap
@@ -241,6 +245,7 @@ pub record AreWordsOf (kinds : List Kind) (heap : Heap) (words : List ℕ) : Typ
   pub kinds_fit : AreOfKinds heap kinds words
   pub count : length words ≡ length kinds
 
+-- the same for arguments, from left to right: words of the wanted kinds, as many as these
 pub terms_are_typed :
     (shape : ShapeLists) (kinds : List Kind) (locals : List ℕ) (heap : Heap)
     → IsTypedHeap shape heap

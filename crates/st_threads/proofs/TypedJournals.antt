@@ -137,6 +137,7 @@ along shape sizes thread w (e ∷ es) deed turn sound legal typed leads =
     by true l f k = f l
     by false l f k = k l
 
+-- the thread's deed stays typed along a legal journal, through its own events and those of others
 pub threads_ask_legally : AskLegally
 unfolding LeadTo IsLegal
 threads_ask_legally shape p sizes right es thread turn legal leads =

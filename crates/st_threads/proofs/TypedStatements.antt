@@ -30,7 +30,8 @@ use Rattle.st_meaning.proofs.CheckLemmas.{element_found}
 use Rattle.st_meaning.proofs.CourseLemmas.{cell_is_there, local_has_kind}
 use Rattle.st_threads.specs.declared.limits.TheConstants.{TURN_COST, CALL_COST, MOST_OPEN_CALLS}
 use Rattle.st_threads.specs.Deeds.{Request, make, load, store, cas, launch, Deed, ends, asks, Means, paying, cost_of, asking}
-use Rattle.st_threads.specs.Statements.{evaluating, no_calls, term_deed, object_deed, target_deed, new_deed, source_deed, values_of, names_of, args_of, Steps, turns, ProcCalls, command_deed, block_deed}
+use Rattle.st_threads.specs.Statements.{evaluating, no_calls, term_deed, object_deed, target_deed, new_deed, source_deed, values_of, names_of, args_of, Steps, turns, ProcCalls, command_deed}
+use Rattle.st_threads.specs.Statements.{block_deed}
 use Rattle.st_threads.specs.Threads.{first_locals, body_deed, call_within, thread_deed}
 use Rattle.st_threads.specs.Typed.{GoesOn, IsTyped, IsRightRequest, IsRightReply}
 use Rattle.st_threads.proofs.KindLemmas.{goes_on_itself, goes_on_further, kind_stays, kinds_stay, some_word, cell_stays, kind_of_field_stays, fits_stays, fits_of_kind, kind_at_class}
@@ -341,6 +342,7 @@ body_is_typed shape p calls limits hc r right words heap means rest typed fit be
     (filled_of_kinds heap r.locals r.params words (length r.locals) fit.kinds_fit fit.count (omega arith))
     (λ later g _ _ left. behind later g left)
 
+-- a call is typed, however many more may be open: by induction on that number
 pub calls_are_typed : (shape : ShapeLists) (p : Program) → IsWellFormed shape p → (depth : ℕ) → CallsAreTyped shape p (call_within p depth)
 unfolding call_within
 calls_are_typed shape p right zero called r words at heap means rest e typed fit behind = tt

@@ -35,6 +35,7 @@ pub data Turn : Type 0 where
   asks_for : Request → Turn
   has_ended : End → Turn
 
+-- the first that a deed does
 abbrev pub turn_of : Deed → Turn
 turn_of (ends end) = has_ended end
 turn_of (asks request next) = asks_for request

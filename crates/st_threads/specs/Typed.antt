@@ -30,6 +30,7 @@ IsRightReply shape heap (store obj field value) reply = Unit {0}
 IsRightReply shape heap (cas obj field expect value) reply = reply ≤ 1
 IsRightReply shape heap (launch site args) reply = Unit {0}
 
+-- a deed is typed on a heap: what it asks for is right there, and after any right reply on any later heap the rest is typed; an end is
 abbrev pub IsTyped : ShapeLists → Deed → Heap → Type 0
 IsTyped shape (ends end) heap = Unit {0}
 IsTyped shape (asks request next) heap =
