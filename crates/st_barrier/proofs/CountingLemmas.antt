@@ -52,6 +52,7 @@ number_there shape heap typed obj class kinds (Some x) there is =
       λ word. subst (λ (ks : List Kind). has_kind_if_any heap (slice_get ks 0) word ≡ true) (sym its) refl,
     )
 
+-- an object of a class with one number has a cell there, which takes every word
 pub number_cell :
     (shape : ShapeLists) (heap : Heap) → IsTypedHeap shape heap
     → (obj class : ℕ) → class_at heap obj ≡ Some class → kinds_of shape class ≡ Int ∷ []
@@ -98,6 +99,7 @@ declared_there : (classes : List (List Kind)) (class : ℕ) (ks : Option (List K
 declared_there classes class None there is = absurd (let e : [] ≡ Int ∷ [] = is in cc)
 declared_there classes class (Some ks) there is = slice_get_within classes class ks there
 
+-- class 1 is declared
 pub first_declared : (shape : ShapeLists) → HasNumbers shape → 1 < length shape.classes
 first_declared shape numbers = declared_there shape.classes 1 (slice_get shape.classes 1) refl numbers.first
 
@@ -111,6 +113,7 @@ charge_left v spare mutator is =
     ap (λ b. if b then v.terms.sizes.events else 0) (below_holds v.gate.number v.terms.sizes.mutators mutator) in
     omega (arith, is, whole)
 
+-- a mutator's objects and its room are its region
 pub room_left : (v : MutView) (room : ℕ) → v.gate.number < v.terms.sizes.mutators → room + objects_made v ≡ whole_region v.terms.sizes v.gate.number
     → objects_made v + room ≡ v.terms.sizes.objects
 room_left v room mutator is =

@@ -59,6 +59,7 @@ setting_changes (Cas m obj field expect value done) f word s = s.2
 setting_changes (Launch m site number args) f word s = absurd s
 setting_changes (Retire m number) f word s = absurd s
 
+-- a New that is drawn is in flight
 pub making_flies : (h : Heap) (lanes : List ℕ) (index : ℕ) (e : Event) (c : ℕ) → IsMaking e c → left_in_flight h lanes index e ≡ Some (fresh_new e)
 making_flies h lanes index (New m obj class) c s = refl
 making_flies h lanes index (Load m obj field value) c s = absurd s
@@ -415,6 +416,7 @@ load_of a c obj f value made = record {
       (each_is_legal c.view.terms.shape c.view.terms.sizes made.past [] (Load a.view.gate.number obj f value) made.legal)).word;
 }
 
+-- an event that the call made as a Cas is done exactly where the word just before was the expected one, since the list is legal
 pub cas_of : (a c : SeatValue) (obj f expect value : ℕ) (done : Bool) → MakesEvent (Cas a.view.gate.number obj f expect value done) a c → Compares obj f expect value done a c
 cas_of a c obj f expect value done made = record {
   made = made;
@@ -477,17 +479,20 @@ pub load_made :
 load_made a b c m obj f value is_m stays made =
     load_of a c obj f value (subst (λ k. MakesEvent (Load k obj f value) a c) is_m (event_of_call a b c (Load m obj f value) stays made))
 
+-- a store that draws after steps that drew nothing is one event of the whole call
 pub store_made :
     (a b c : SeatValue) (m obj f value : ℕ) → m ≡ a.view.gate.number → StaysAs a b → MakesEvent (Store m obj f value) b c
     → MakesEvent (Store a.view.gate.number obj f value) a c
 store_made a b c m obj f value is_m stays made = subst (λ k. MakesEvent (Store k obj f value) a c) is_m (event_of_call a b c (Store m obj f value) stays made)
 
+-- and so is a cas
 pub cas_made :
     (a b c : SeatValue) (m obj f expect value : ℕ) (done : Bool) → m ≡ a.view.gate.number → StaysAs a b → MakesEvent (Cas m obj f expect value done) b c
     → Compares obj f expect value done a c
 cas_made a b c m obj f expect value done is_m stays made =
     cas_of a c obj f expect value done (subst (λ k. MakesEvent (Cas k obj f expect value done) a c) is_m (event_of_call a b c (Cas m obj f expect value done) stays made))
 
+-- and so is a New
 pub new_made :
     (a b c : SeatValue) (m obj class : ℕ) → m ≡ a.view.gate.number → StaysAs a b → MakesEvent (New m obj class) b c
     → MakesEvent (New a.view.gate.number obj class) a c

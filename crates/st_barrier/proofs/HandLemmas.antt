@@ -25,9 +25,11 @@ use Rattle.st_rule.specs.Seats.{IsSameSeat}
 use Rattle.st_rule.specs.Turns.{board_loaded, locked, locked_at, field_found, with_field}
 use Rattle.st_barrier.specs.Hands.{StaysAs, HasLoadedFields, HasEpoch}
 
+-- where nothing was done, the seat stays as it is
 pub stays_self : (seat : SeatValue) → StaysAs seat seat
 stays_self seat = record { table = refl; id = refl; terms = refl; gate = refl; journal = refl; hands = refl }
 
+-- and so it does after two things that leave it as it is
 pub stays_then : (a b c : SeatValue) → StaysAs a b → StaysAs b c → StaysAs a c
 stays_then a b c p q = record {
   table = q.table ∙ p.table;
@@ -80,9 +82,11 @@ read_view :
 read_view before after field finds x found =
     finds.view ∙ ap (λ k. field_found field k before.view) (some_is finds.word x (sym (ap (λ (v : MutView). v.tally.found) finds.view) ∙ found))
 
+-- a load of a field draws nothing
 pub read_stays : (before after : SeatValue) (same : IsSameSeat before after) (field : ℕ) (finds : Finds (field_found field) before.view after.view) → StaysAs before after
 read_stays before after same field finds = stays_by before after (field_found field finds.word before.view) same finds.view refl refl refl refl
 
+-- and the hand has one field more loaded, with the word that was found
 pub read_hand :
     (before after : SeatValue) (field obj stamp : ℕ) (loaded : List LoadedField) (finds : Finds (field_found field) before.view after.view) (x : ℕ)
     → after.view.tally.found ≡ Some x → HasLoadedFields obj stamp loaded before

@@ -37,9 +37,11 @@ use Rattle.st_barrier.proofs.NeedLemmas.{other_known, lane_available, lane_free,
 
 -- ---- the board as it is
 
+-- where nothing was done, the board's words are known still
 pub board_self : (seat : SeatValue) → KeepsBoard seat seat
 board_self seat = record { stays = stays_self seat; board = refl }
 
+-- and so they are after one thing that keeps them and another
 pub board_then : (a b c : SeatValue) → KeepsBoard a b → KeepsBoard b c → KeepsBoard a c
 board_then a b c p q = record { stays = stays_then a b c p.stays q.stays; board = q.board ∙ p.board }
 
@@ -157,6 +159,7 @@ fields_more obj stamp field found fields place word before after within holds lo
     below : (f place : ℕ) → f < place + 1 → f ≢ place → f < place
     below f place lt ne = grind arith
 
+-- a load of a field leaves what is known of the board
 pub field_keeps : (before after : SeatValue) (same : IsSameSeat before after) (place : ℕ) (finds : Finds (field_found place) before.view after.view) → KeepsBoard before after
 field_keeps before after same place finds = record {
   stays = stays_by before after (field_found place finds.word before.view) same finds.view refl refl refl refl;
@@ -209,6 +212,7 @@ module _ (seat : SeatValue) (e : Event) (obj stamp field value : ℕ) (found : O
 pub available_keeps_epoch : (word : ℕ) (a b : SeatValue) → IsFair a → LoadsWord AvailableWord word a b → KeepsEpoch a b
 available_keeps_epoch word a b fair loads epoch known = other_known AvailableWord EpochWord a b word epoch loads (epoch_available a fair) known
 
+-- a load of the free list's length leaves what is known of the lanes
 pub available_keeps_lanes : (word : ℕ) (a b : SeatValue) → IsFair a → LoadsWord AvailableWord word a b → KeepsLanes a b
 available_keeps_lanes word a b fair loads lane check within known = other_known AvailableWord (LaneWord lane) a b word check loads (lane_available a fair lane within) known
 
@@ -222,9 +226,11 @@ module _ (index word : ℕ) (a b : SeatValue) (fair : IsFair a) (within : index 
   pub free_keeps_available : (available : ℕ) → HasLoadedWord AvailableWord available a → HasLoadedWord AvailableWord available b
   free_keeps_available available known = other_known (FreeWord index) AvailableWord a b word available loads (available_free a fair index within) known
 
+-- what keeps the epoch, and then again what keeps it, keeps it
 pub epoch_then : (a b c : SeatValue) → KeepsEpoch a b → KeepsEpoch b c → KeepsEpoch a c
 epoch_then a b c p q epoch known = q epoch (p epoch known)
 
+-- what keeps the lanes, and then again what keeps them, keeps them
 pub lanes_then : (a b c : SeatValue) → StaysAs a b → KeepsLanes a b → KeepsLanes b c → KeepsLanes a c
 lanes_then a b c stays p q lane word within known =
     q lane word (subst (λ (t : Terms). lane < t.sizes.lanes) (sym stays.terms) within) (p lane word within known)
@@ -378,7 +384,9 @@ module _ (seat : SeatValue) (obj field value target : ℕ) (k : IsKept obj field
     object_is = k.object_is;
     within = within;
     awaits =
-        ap (λ ls. is_among ls lane) (sym awaiting_is ∙ awaiting ∙ ap (lanes_in checks) (plus_one lane) ∙ ap (λ b. if b then lane ∷ lanes_in checks lane else lanes_in checks lane) (true_lt 0 (slice_index checks lane) some))
+        ap (λ ls. is_among ls lane)
+        (sym awaiting_is ∙ awaiting ∙ ap (lanes_in checks) (plus_one lane)
+        ∙ ap (λ b. if b then lane ∷ lanes_in checks lane else lanes_in checks lane) (true_lt 0 (slice_index checks lane) some))
         ∙ or_first (lane == lane) (is_among (lanes_in checks lane) lane) (eq-eqb lane lane refl);
     check = check;
     loaded = known lane within some ∙ ap Some (sym check_is);
@@ -436,6 +444,7 @@ module _ (seat : SeatValue) (obj field value target : ℕ) (k : IsKept obj field
 
 -- ---- hands
 
+-- what was found of the field is known still, where the hand stays
 pub found_stays :
     (a b : SeatValue) (obj stamp field : ℕ) (found : Option ℕ) → b.view.held ≡ a.view.held → HoldsFound obj stamp field found a → HoldsFound obj stamp field found b
 found_stays a b obj stamp field found same h = record { loaded = h.loaded; held = same ∙ h.held; found_is = h.found_is }
@@ -465,6 +474,7 @@ pub fields_none :
     (obj stamp field : ℕ) (found : Option ℕ) (fields : List ℕ) (seat : SeatValue) → HoldsFound obj stamp field found seat → HoldsFields obj stamp field found fields 0 seat
 fields_none obj stamp field found fields seat h = record { loaded = h.loaded; held = h.held; found_is = h.found_is; fields_are = λ f lt. absurd (omega (arith, lt)) }
 
+-- a hand with its fields loaded has the field found
 pub fields_found :
     (obj stamp field : ℕ) (found : Option ℕ) (fields : List ℕ) (count : ℕ) (seat : SeatValue) → HoldsFields obj stamp field found fields count seat → HoldsFound obj stamp field found seat
 fields_found obj stamp field found fields count seat h = record { loaded = h.loaded; held = h.held; found_is = h.found_is }

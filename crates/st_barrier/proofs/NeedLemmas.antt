@@ -118,15 +118,19 @@ module _ (seat : SeatValue) (fair : IsFair seat) where
 
 -- ---- lanes
 
+-- a test on numbers that says less is right
 pub lt_true : (a b : ℕ) → nat_lt a b ≡ true → a < b
 lt_true a b e = grind (arith, nat_tests)
 
+-- and one that says not less is right
 pub lt_false : (a b : ℕ) → nat_lt a b ≡ false → b ≤ a
 lt_false a b e = grind (arith, nat_tests)
 
+-- what is less, the test says
 pub true_lt : (a b : ℕ) → a < b → nat_lt a b ≡ true
 true_lt a b lt = grind (arith, nat_tests)
 
+-- what is not less, the test says
 pub not_lt : (a b : ℕ) → b ≤ a → nat_lt a b ≡ false
 not_lt a b le = grind (arith, nat_tests)
 
@@ -147,6 +151,7 @@ need_stays stamp need lane other word before after fair in_lane in_other ne load
   need_is = has.need_is;
 }
 
+-- a load of a lane leaves what is known of the epoch
 pub lane_keeps_epoch :
     (lane word : ℕ) (before after : SeatValue) → IsFair before → lane < before.view.terms.sizes.lanes → LoadsWord (LaneWord lane) word before after → KeepsEpoch before after
 lane_keeps_epoch lane word before after fair within loads epoch known =
@@ -219,6 +224,7 @@ any_step : (n : ℕ) (rest : List ℕ) (b : Bool) → is_any rest ≡ true → i
 any_step n rest true some = refl
 any_step n rest false some = some
 
+-- where some lane below a count needs the version, some lane below a larger count does
 pub any_more : (checks : List ℕ) (k count : ℕ) → k ≤ count → is_any (lanes_in checks k) ≡ true → is_any (lanes_in checks count) ≡ true
 any_more checks k zero le some = subst (λ j. is_any (lanes_in checks j) ≡ true) (let e : k ≡ 0 = omega (arith, le) in e) some
 any_more checks k (suc n) le some = dite (ℕ_discrete k (suc n))
@@ -228,6 +234,7 @@ any_more checks k (suc n) le some = dite (ℕ_discrete k (suc n))
     below : (k n : ℕ) → k ≤ suc n → k ≢ suc n → k ≤ n
     below k n le ne = grind arith
 
+-- one more is the next number
 pub plus_one : (n : ℕ) → n + 1 ≡ suc n
 plus_one n = omega arith
 
@@ -243,6 +250,7 @@ none_here checks lane none rest =
     ap (lanes_in checks) (plus_one lane)
     ∙ ap (λ b. if b then lane ∷ lanes_in checks lane else lanes_in checks lane) (not_lt 0 (slice_index checks lane) none) ∙ rest
 
+-- a list without any is empty
 pub none_of : (lanes : List ℕ) → is_any lanes ≡ false → lanes ≡ []
 none_of [] e = refl
 none_of (n ∷ ns) e = absurd cc

@@ -113,6 +113,7 @@ abbrev pub awaiting_in : Option Flight → List ℕ
 awaiting_in None = []
 awaiting_in (Some x) = x.awaiting
 
+-- the lanes that await the old version of what the hand has in flight
 abbrev pub awaiting_of : Option Held → List ℕ
 awaiting_of None = []
 awaiting_of (Some h) = awaiting_in h.flight

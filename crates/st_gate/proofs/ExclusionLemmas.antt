@@ -7,6 +7,7 @@ use Rattle.st_rule.specs.Views.{is_closer}
 use Rattle.st_gate.specs.Exclusion.{ExcludesOthers}
 use Rattle.st_gate.specs.Phases.{IsAlone}
 
+-- while a seat is Alone, every other seat of its table is neither Inside nor Alone, at each moment at which the rule holds
 pub alone_excludes_others : (told : Told) (seat : SeatValue) → IsAlone seat → ExcludesOthers told seat
 alone_excludes_others told seat alone m words views h sits other view apart there =
     let v = seat.view in

@@ -86,5 +86,6 @@ alone_after mutators number =
 pub others_more : (k number : ℕ) → k ≢ number → others_below (k + 1) number ≡ k ∷ others_below k number
 others_more k number other = ap (λ n. others_below n number) (add-one k) ∙ ap (λ b. if b then others_below k number else k ∷ others_below k number) (ne_eqb k number other)
 
+-- the closer's own number is not one that is left to see
 pub others_same : (k number : ℕ) → k ≡ number → others_below (k + 1) number ≡ others_below k number
 others_same k number own = ap (λ n. others_below n number) (add-one k) ∙ ap (λ b. if b then others_below k number else k ∷ others_below k number) (eq-eqb k number own)

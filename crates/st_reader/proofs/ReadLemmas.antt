@@ -38,6 +38,7 @@ field_few u obj f fair cell = within (past_of u obj) refl cell
             let same = sound.typed.lengths obj x e in
             omega (arith, few, lt, same)
 
+-- an object with a cell in the past stood in the past
 pub object_stood : (u : LaneView) (obj field : ℕ) → IsSome (word_at (past_of u) obj field) → IsSome (past_of u obj)
 object_stood u obj field cell = object_of_cell (past_of u obj) field cell
 

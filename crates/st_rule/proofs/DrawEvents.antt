@@ -45,6 +45,7 @@ suits_own v h (Cas m obj field expect value done) s = same_is m v.gate.number s.
 suits_own v h (Launch m site number args) s = absurd s
 suits_own v h (Retire m number) s = absurd s
 
+-- an event that suits a seat is of no other number
 pub suits_other : (v : MutView) (h : Held) (e : Event) → Suits v h e → (k : ℕ) → k ≢ v.gate.number → is_own k e ≡ false
 suits_other v h (New m obj class) s k other = other_is m v.gate.number k s.0 other
 suits_other v h (Load m obj field value) s k other = other_is m v.gate.number k s.0 other
@@ -102,6 +103,7 @@ cell_word heap o f word some is = there (word_at heap o f) refl some
 
 -- ---- a change
 
+-- a change of one field leaves the heap and the stamps at every other object
 pub change_leaves : (sizes : Sizes) (w : World) (n o f value : ℕ) → LeavesElsewhere w (changed sizes w o f value) n o
 change_leaves sizes w n o f value = record {
   heap = λ i ne. word_set_elsewhere w.heap o f value i ne;
@@ -130,9 +132,11 @@ set_words (Some x) f value g some = within (slice_get x.words f) refl some
 pub change_words : (heap : Heap) (o f value g : ℕ) → IsSome (word_at heap o f) → word_at (with_word heap o f value) o g ≡ cond (g == f) (Some value) (word_at heap o g)
 change_words heap o f value g some = ap (λ z. word_of z g) (word_set_here heap o f value) ∙ set_words (heap o) f value g some
 
+-- after a change of a field that is there the heap has the new word
 pub change_lands : (heap : Heap) (o f value : ℕ) → IsSome (word_at heap o f) → word_at (with_word heap o f value) o f ≡ Some value
 change_lands heap o f value some = change_words heap o f value f some ∙ ap (λ b. cond b (Some value) (word_at heap o f)) (eq-eqb f f refl)
 
+-- and the object is still there
 pub change_there : (heap : Heap) (o f value : ℕ) → IsSome (word_at heap o f) → IsSome (with_word heap o f value o)
 change_there heap o f value some = subst (λ (z : Option Object). IsSome z) (sym (word_set_here heap o f value)) (there (heap o) some)
   where
@@ -153,6 +157,7 @@ change_shows heap o f value x some unwritten old sets g = dite (ℕ_discrete g f
 
 -- ---- a New
 
+-- a New leaves the heap and the stamps at every other object
 pub new_leaves : (shape : ShapeLists) (sizes : Sizes) (w : World) (n o class : ℕ) → LeavesElsewhere w (next shape sizes w (New n o class)) n o
 new_leaves shape sizes w n o class = record {
   heap = λ i ne. object_put_elsewhere w.heap o (fresh shape class) i ne;

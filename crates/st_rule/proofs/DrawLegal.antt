@@ -132,6 +132,7 @@ epoch_same v x shape sizes w (Cas t obj f expect value false) s = refl
 epoch_same v x shape sizes w (Launch t site number args) s = absurd s
 epoch_same v x shape sizes w (Retire t number) s = absurd s
 
+-- an event that a mutator draws leaves the active checks
 pub active_same : (v : MutView) (x : Held) (shape : ShapeLists) (sizes : Sizes) (w : World) (e : Event) → Suits v x e → (next shape sizes w e).active ≡ w.active
 active_same v x shape sizes w (New t obj class) s = refl
 active_same v x shape sizes w (Load t obj f value) s = refl
@@ -141,6 +142,7 @@ active_same v x shape sizes w (Cas t obj f expect value false) s = refl
 active_same v x shape sizes w (Launch t site number args) s = absurd s
 active_same v x shape sizes w (Retire t number) s = absurd s
 
+-- and it leaves what was launched
 pub launched_same : (v : MutView) (x : Held) (shape : ShapeLists) (sizes : Sizes) (w : World) (e : Event) → Suits v x e → (next shape sizes w e).launched ≡ w.launched
 launched_same v x shape sizes w (New t obj class) s = refl
 launched_same v x shape sizes w (Load t obj f value) s = refl

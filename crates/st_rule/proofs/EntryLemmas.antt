@@ -29,6 +29,7 @@ joined_step :
 joined_step n k e xs ys rest count true = ap (λ zs. entry k e ∷ zs) (rest ∙ ap (λ t. own_entries n (suc k) xs ++ own_entries n t ys) count)
 joined_step n k e xs ys rest count false = rest ∙ ap (λ t. own_entries n (suc k) xs ++ own_entries n t ys) count
 
+-- a number's own events of two lists, one behind the other, are those of the first and those of the second, whose tickets go on
 pub own_joined : (n k : ℕ) (xs ys : List Event) → own_entries n k (xs ++ ys) ≡ own_entries n k xs ++ own_entries n (k + length xs) ys
 own_joined n k [] ys = ap (λ t. own_entries n t ys) (let e : k ≡ k + length {A = Event} [] = omega arith in e)
 own_joined n k (e ∷ xs) ys = joined_step n k e xs ys (own_joined n (suc k) xs ys) (omega arith) (is_own n e)
@@ -88,6 +89,7 @@ below_other (suc n) m es e others le =
     let same = ap charge_of_all (own_other n es e (others n (λ s. absurd (omega (arith, s, le))))) in
     omega (arith, rest, same)
 
+-- an event more of one number costs the numbers below the count just what the event costs
 pub below_more :
     (count m : ℕ) (es : List Event) (e : Event)
     → ((n : ℕ) → n ≢ m → is_own n e ≡ false) → is_own m e ≡ true → m < count
@@ -137,6 +139,7 @@ new_test m (Cas t obj field expect value done) = neither (t == m)
 new_test m (Launch t site number args) = neither (t == m)
 new_test m (Retire t number) = refl
 
+-- the New events of a number among these events are as many as among its entries
 pub news_are : (m k : ℕ) (es : List Event) → length (filter (is_new_of m) es) ≡ news_among (own_entries m k es)
 news_are m k [] = refl
 news_are m k (e ∷ es) =

@@ -18,6 +18,7 @@ use Rattle.st_rule.proofs.TurnLemmas.{WordsTell}
 pub inside_is_no_closer : (p : Phase) → p ≡ Inside → is_closer p ≡ true → ⊥
 inside_is_no_closer p is closes = absurd (cc (is, closes))
 
+-- a number that has the closing word is a closer with its flag down, whether it saw every other flag 0 or not yet
 pub closer_is : (saw : Bool) → (is_closer (if saw then Alone else Closing) ≡ true) × (flag_of (if saw then Alone else Closing) ≡ 0)
 closer_is true = (refl, refl)
 closer_is false = (refl, refl)

@@ -155,6 +155,7 @@ learns change me v word seen w is same_view goes legal own =
       slots = refl;
     }
 
+-- a step that changes none of these leaves who the seat is, and its entries
 pub stays_of : (v w : MutView) → w.terms ≡ v.terms → w.gate.number ≡ v.gate.number → w.gate.split ≡ v.gate.split → w.hands ≡ v.hands
     → w.journal.entries ≡ v.journal.entries → StaysSeated v w
 stays_of v w a b c d e = record { put = record { terms = a; number = b; split = c; joined = d }; entries = e }

@@ -27,12 +27,15 @@ use Rattle.st_rule.proofs.ViewLemmas.{at_here, at_else}
 pub holds_one : (h : Held) (o : ℕ) → Holds (Some h) o → h.object ≡ o
 holds_one h o holds = let same : h ≡ holds.held = cc (holds.is) in ap (λ (x : Held). x.object) same ∙ holds.object_is
 
+-- a hand holds its object
 pub holds_own : (h : Held) → Holds (Some h) h.object
 holds_own h = record { held = h; is = refl; object_is = refl }
 
+-- an empty hand holds nothing
 pub holds_none : (o : ℕ) → Holds None o → ⊥
 holds_none o holds = let e : None ≡ Some holds.held = holds.is in absurd cc
 
+-- a hand is one hand
 pub some_held : (h x : Held) → Some h ≡ Some x → h ≡ x
 some_held h x e = cc
 
@@ -44,9 +47,11 @@ else_same object value f o other = at_else object value f o other
 abbrev pub at_field : (object field value : ℕ) → (ℕ → ℕ → ℕ) → ℕ → ℕ → ℕ
 at_field object field value words = λ o f. if (o == object) && (f == field) then value else words o f
 
+-- fields of which one was changed have the new word there
 pub field_here : (object field value : ℕ) (words : ℕ → ℕ → ℕ) → at_field object field value words object field ≡ value
 field_here object field value words = rw (eq-eqb object object refl, eq-eqb field field refl) refl
 
+-- and the old word at every other field of the object
 pub field_other : (object field value : ℕ) (words : ℕ → ℕ → ℕ) (o f : ℕ) → f ≢ field → at_field object field value words o f ≡ words o f
 field_other object field value words o f other = rw (ne_eqb f field other) (both_no (o == object) value (words o f))
   where
@@ -54,6 +59,7 @@ field_other object field value words o f other = rw (ne_eqb f field other) (both
     both_no true x y = refl
     both_no false x y = refl
 
+-- and at every field of every other object
 pub field_elsewhere : (object field value : ℕ) (words : ℕ → ℕ → ℕ) (o f : ℕ) → o ≢ object → at_field object field value words o f ≡ words o f
 field_elsewhere object field value words o f other = rw (ne_eqb o object other) refl
 

@@ -25,12 +25,15 @@ each_flight P object x flight here others o = dite (ℕ_discrete o object)
     (λ same. subst (λ k. P k (at object x flight k)) (sym same) (subst (P object) (sym (at_here object x flight)) here))
     (λ other. subst (P o) (sym (at_else object x flight o other)) (others o other))
 
+-- what is in flight is one thing
 pub one_flight : (x y : Flight) → Some x ≡ Some y → x ≡ y
 one_flight x y e = cc
 
+-- where nothing is in flight, nothing is
 pub no_flight : (y : Flight) → None ≡ Some y → ⊥
 no_flight y e = absurd cc
 
+-- nothing is in the empty list
 pub none_among : (l : ℕ) → is_among [] l ≡ true → ⊥
 none_among l e = absurd cc
 

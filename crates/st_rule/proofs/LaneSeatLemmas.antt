@@ -39,6 +39,7 @@ both_tell : (plan : Plan) (object field place : ℕ) → field < MOST_FIELDS →
 both_tell plan object field place few is =
     let o = object_tells plan object field place few is in (o, ap (λ k. field_of_word plan k place) o ∙ field_tells plan object field place is)
 
+-- a check's load of this field is one of the object and the field that the word's number names
 pub reads_field :
     (object field place word : ℕ) (me after : Seated) (u : LaneView) → me.0 ≡ Lane u → field < MOST_FIELDS → place ≡ word_of (plan_of u.terms.sizes) (FieldWord object field)
     → LaneBecomes (field_read object field) me word after → ReadsField place me word after
@@ -47,6 +48,7 @@ reads_field object field place word me after u is few is_place becomes = record 
       subst (λ (t : ℕ × ℕ). LaneBecomes (field_read t.0 t.1) me word after) (λ i. (sym both.0 i, sym both.1 i)) becomes;
 }
 
+-- and the other way round
 pub field_reads :
     (object field place word : ℕ) (me after : Seated) (u : LaneView) → me.0 ≡ Lane u → field < MOST_FIELDS → place ≡ word_of (plan_of u.terms.sizes) (FieldWord object field)
     → ReadsField place me word after → LaneBecomes (field_read object field) me word after
@@ -59,6 +61,7 @@ pub past_within : (u : LaneView) (object : ℕ) → IsFairLane u → IsSome (pas
 past_within u object fair stood = exists_within u.terms.sizes (world_after u.terms.shape u.terms.sizes u.past) object
     (legal_is_sound u.terms.shape u.terms.sizes fair.shape_fits u.past fair.legal_past).regions stood
 
+-- an object with a cell in the check's past is one of the table's
 pub cell_within : (u : LaneView) (object field : ℕ) → IsFairLane u → IsSome (word_at (past_of u) object field) → object < cells_of (plan_of u.terms.sizes)
 cell_within u object field fair stood = past_within u object fair (object_of_cell (past_of u object) field stood)
 

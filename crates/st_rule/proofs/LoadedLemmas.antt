@@ -20,6 +20,7 @@ use Rattle.st_rule.proofs.TurnLemmas.{LeavesBoard}
 abbrev pub IsFleeting : WordName → Type 0
 IsFleeting name = (p : Phase) → stays_loaded p name ≡ false
 
+-- no seat may keep what it loaded of a flag, whatever its phase is
 pub flags_fleet : (n : ℕ) → IsFleeting (FlagWord n)
 flags_fleet n Outside = refl
 flags_fleet n Entering = refl
@@ -27,6 +28,7 @@ flags_fleet n Inside = refl
 flags_fleet n Closing = refl
 flags_fleet n Alone = refl
 
+-- nor of the closing word
 pub closing_fleets : IsFleeting ClosingWord
 closing_fleets Outside = refl
 closing_fleets Entering = refl
@@ -34,6 +36,7 @@ closing_fleets Inside = refl
 closing_fleets Closing = refl
 closing_fleets Alone = refl
 
+-- nor of an object's header
 pub headers_fleet : (o : ℕ) → IsFleeting (HeaderWord o)
 headers_fleet o Outside = refl
 headers_fleet o Entering = refl
@@ -41,6 +44,7 @@ headers_fleet o Inside = refl
 headers_fleet o Closing = refl
 headers_fleet o Alone = refl
 
+-- nor of its class word
 pub classes_fleet : (o : ℕ) → IsFleeting (ClassWord o)
 classes_fleet o Outside = refl
 classes_fleet o Entering = refl
@@ -48,6 +52,7 @@ classes_fleet o Inside = refl
 classes_fleet o Closing = refl
 classes_fleet o Alone = refl
 
+-- nor of one of its fields
 pub fields_fleet : (o f : ℕ) → IsFleeting (FieldWord o f)
 fields_fleet o f Outside = refl
 fields_fleet o f Entering = refl
@@ -55,6 +60,7 @@ fields_fleet o f Inside = refl
 fields_fleet o f Closing = refl
 fields_fleet o f Alone = refl
 
+-- a store to a word that no seat in the phase may keep leaves each word that such a seat may keep
 pub written_else : (p : Phase) (name other : WordName) (value : ℕ) (board : Board) → stays_loaded p name ≡ false → stays_loaded p other ≡ true
     → (b : Bool) → same_name other name ≡ b → (if b then value else board other) ≡ board other
 written_else p name other value board fleets keeps true is =

@@ -32,6 +32,7 @@ main_owns_none shape sizes w k (e ∷ es) l =
     ap (λ b. if b then entry k e ∷ own_entries sizes.mutators (suc k) es else own_entries sizes.mutators (suc k) es) (not_mains shape sizes w e l.0)
     ∙ main_owns_none shape sizes (next shape sizes w e) (suc k) es l.1
 
+-- in a legal journal no event is the main thread's
 pub main_has_none : (shape : ShapeLists) (sizes : Sizes) (es : List Event) → IsLegal shape sizes es → own_entries sizes.mutators 0 es ≡ []
 unfolding IsLegal
 main_has_none shape sizes es l = main_owns_none shape sizes (first_world shape) 0 es l

@@ -76,6 +76,7 @@ pub some_of : (ns : List ℕ) → is_any ns ≡ true → (n : ℕ) × (is_among 
 some_of [] e = absurd cc
 some_of (n ∷ ns) e = (n, or_first (n == n) (is_among ns n) (eq-eqb n n refl))
 
+-- where a number is in a list, the list has any
 pub any_of : (ns : List ℕ) (n : ℕ) → is_among ns n ≡ true → is_any ns ≡ true
 any_of [] n e = absurd cc
 any_of (k ∷ ns) n e = refl

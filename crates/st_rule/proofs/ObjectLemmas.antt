@@ -66,6 +66,7 @@ landed_same heap heap' object (Cas m obj field expect value done) same l = (l.0,
 landed_same heap heap' object (Launch m site number args) same l = l
 landed_same heap heap' object (Retire m number) same l = l
 
+-- where two heaps have the same at an object, it is there in both or in none
 pub is_some_same : (x y : Option Object) → y ≡ x → IsSome x → IsSome y
 is_some_same x y same some = subst (λ (z : Option Object). IsSome z) (sym same) some
 

@@ -57,6 +57,7 @@ pub allows_more :
     → Allows holds slots id me i f P → Allows holds slots id me i f Q
 allows_more holds slots id me i f P Q more allows s sound wide at_id found = let r = allows s sound wide at_id found in (r.0, r.1, r.2, r.3, more _ _ r.4)
 
+-- a lock of this object is a lock of the object whose header the word's number names
 pub locks_where :
     (object stamp old place word : ℕ) (me after : Seated) (v : MutView) → me.0 ≡ Mut v
     → place ≡ word_of (plan_of v.terms.sizes) (HeaderWord object) → high_half old ≡ stamp
@@ -71,6 +72,7 @@ locks_where object stamp old place word me after v is is_place is_old locks = re
       locks;
 }
 
+-- and the other way round
 pub where_locks :
     (object stamp old place word : ℕ) (me after : Seated) (v : MutView) → me.0 ≡ Mut v
     → place ≡ word_of (plan_of v.terms.sizes) (HeaderWord object) → high_half old ≡ stamp
@@ -81,6 +83,7 @@ where_locks object stamp old place word me after v is is_place is_old locks =
 some_one : (h x : Held) → Some h ≡ Some x → h ≡ x
 some_one h x e = cc
 
+-- a load of this field of the held object is a load of the field that the word's number names
 pub finds_field :
     (field place word : ℕ) (me after : Seated) (v : MutView) (h : Held) → me.0 ≡ Mut v → v.held ≡ Some h
     → place ≡ word_of (plan_of v.terms.sizes) (FieldWord h.object field)
@@ -94,6 +97,7 @@ finds_field field place word me after v h is held is_place becomes = record {
       becomes;
 }
 
+-- and the other way round
 pub field_finds :
     (field place word : ℕ) (me after : Seated) (v : MutView) (h : Held) → me.0 ≡ Mut v → v.held ≡ Some h
     → place ≡ word_of (plan_of v.terms.sizes) (FieldWord h.object field)
@@ -101,6 +105,7 @@ pub field_finds :
 field_finds field place word me after v h is held is_place finds =
     subst (λ f. Becomes (field_found f) me word after) (field_tells (plan_of v.terms.sizes) h.object field place is_place) (finds.finds v h is held)
 
+-- a store of this lane's forwarding word at the held object is a store of the one that the word's number names
 pub stores_forward :
     (lane place word : ℕ) (me after : Seated) (v : MutView) (h : Held) → me.0 ≡ Mut v → v.held ≡ Some h
     → place ≡ word_of (plan_of v.terms.sizes) (ForwardWord h.object lane)
@@ -114,6 +119,7 @@ stores_forward lane place word me after v h is held is_place becomes = record {
       becomes;
 }
 
+-- and the other way round
 pub forward_stores :
     (lane place word : ℕ) (me after : Seated) (v : MutView) (h : Held) → me.0 ≡ Mut v → v.held ≡ Some h
     → place ≡ word_of (plan_of v.terms.sizes) (ForwardWord h.object lane)
@@ -161,6 +167,7 @@ forward_hand lane count (Some x) old h e = let s = some_one (record x { flight =
 pub hand_within : (v : MutView) (object : ℕ) → IsFairView v → HasInHand v object → object < cells_of (plan_of v.terms.sizes)
 hand_within v object fair has = subst (λ k. k < cells_of (plan_of v.terms.sizes)) (sym has.object_is) (fair.held_within has.hand has.held)
 
+-- an object with something in flight is one of the table's
 pub flight_within : (v : MutView) (object : ℕ) → IsFairView v → (has : HasFlight v) → object ≡ has.hand.object → object < cells_of (plan_of v.terms.sizes)
 flight_within v object fair has is = subst (λ k. k < cells_of (plan_of v.terms.sizes)) (sym is) (fair.held_within has.hand has.held)
 

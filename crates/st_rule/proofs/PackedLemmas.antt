@@ -4,9 +4,11 @@ use Rattle.std.proofs.lemmas.Nat.{div-mul-add, mod-mul-add}
 use Rattle.std.proofs.Math.Nat.{mod-eq_of_lt}
 use Rattle.st_layout.specs.Packed.{packed, high_half, low_half}
 
+-- of two halves in one word the high one comes out again
 pub high_packed : (high low : ℕ) → low < 2 ^ 32 → high_half (packed high low) ≡ high
 high_packed high low fits = div-mul-add high (2 ^ 32) low fits
 
+-- and so does the low one
 pub low_packed : (high low : ℕ) → low < 2 ^ 32 → low_half (packed high low) ≡ low
 low_packed high low fits = mod-mul-add high (2 ^ 32) low fits
 
@@ -17,6 +19,7 @@ packed_halves a b c d fits fits' same = (
   sym (low_packed a b fits) ∙ ap low_half same ∙ low_packed c d fits',
 )
 
+-- a word is its two halves
 pub word_is_packed : (word : ℕ) → packed (high_half word) (low_half word) ≡ word
 word_is_packed word = omega arith
 

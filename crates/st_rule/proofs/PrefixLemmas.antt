@@ -11,9 +11,11 @@ pub prefix_self : {A : Type 0} (xs : List A) → IsPrefix xs xs
 prefix_self [] = ([], refl)
 prefix_self (x ∷ xs) = let r = prefix_self xs in (r.0, ap (λ ys. x ∷ ys) r.1)
 
+-- the empty list begins every list
 pub prefix_empty : {A : Type 0} (xs : List A) → IsPrefix [] xs
 prefix_empty xs = (xs, refl)
 
+-- what begins a beginning begins the whole
 pub prefix_trans : {A : Type 0} (xs ys zs : List A) → IsPrefix xs ys → IsPrefix ys zs → IsPrefix xs zs
 prefix_trans xs ys zs p q = (p.0 ++ q.0, sym (append_assoc xs p.0 q.0) ∙ (ap (λ w. w ++ q.0) p.1 ∙ q.1))
 
@@ -34,6 +36,7 @@ prefix_whole [] (y ∷ ys) p le = absurd (omega arith)
 prefix_whole (x ∷ xs) [] p le = absurd (cc (p.1))
 prefix_whole (x ∷ xs) (y ∷ ys) p le = let rest = prefix_whole xs ys (p.0, cc (p.1)) (omega arith) in cc (p.1, rest)
 
+-- a beginning is no longer than the whole
 pub prefix_length : {A : Type 0} (xs ys : List A) → IsPrefix xs ys → length xs ≤ length ys
 prefix_length xs ys p = omega (arith, sym (ap length p.1) ∙ length-append xs p.0)
 
@@ -48,6 +51,7 @@ longer_by : (xs ys whole : List Event) → IsPrefix xs whole → IsPrefix ys who
 longer_by xs ys whole p q true is = (q, prefix_shorter xs ys whole p q (let le : length xs < length ys = grind (arith, nat_tests, is) in omega (arith, le)), prefix_self ys)
 longer_by xs ys whole p q false is = (p, prefix_self xs, prefix_shorter ys xs whole q p (let le : length ys ≤ length xs = grind (arith, nat_tests, is) in le))
 
+-- of two beginnings of one list the longer is one of them, and both begin it
 pub longer_is : (xs ys whole : List Event) → IsPrefix xs whole → IsPrefix ys whole → IsLonger xs ys whole
 longer_is xs ys whole p q = let t = longer_by xs ys whole p q (nat_lt (length xs) (length ys)) refl in record { within = t.0; this = t.1; that = t.2 }
 

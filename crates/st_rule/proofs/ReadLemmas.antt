@@ -15,12 +15,15 @@ use Rattle.st_rule.specs.declared.views.View.TheVariants.{Mut, Lane, Gone}
 use Rattle.st_rule.specs.Parts.{Sits}
 use Rattle.st_rule.specs.Reading.{IsReading, IsHalfDone, names_copy}
 
+-- a mutator's view is not a lane's
 pub mut_is_no_lane : (w : MutView) (u : LaneView) → Mut w ≡ Lane u → ⊥
 mut_is_no_lane w u e = absurd cc
 
+-- a view that was joined away is not a lane's
 pub gone_is_no_lane : (u : LaneView) → Gone ≡ Lane u → ⊥
 gone_is_no_lane u e = absurd cc
 
+-- and a lane's is not one that was joined away
 pub gone_is_lane : (u : LaneView) → Lane u ≡ Gone → ⊥
 gone_is_lane u e = absurd cc
 
@@ -52,6 +55,7 @@ names_epoch check word names = first (high_half word == check) (not (low_half wo
     first true b e is = grind (arith, nat_tests)
     first false b e is = absurd cc
 
+-- a forwarding word that names a copy for the check does not say lost
 pub names_some : (check word : ℕ) → names_copy check word ≡ true → low_half word ≢ LOST
 names_some check word names lost = second (high_half word == check) (low_half word == LOST) names refl
   where

@@ -54,6 +54,7 @@ fair_after v w steady fair legal own held = record {
 pub held_same : (v w : MutView) → w.held ≡ v.held → IsFairView v → (h : Held) → w.held ≡ Some h → h.object < cells_of (plan_of v.terms.sizes)
 held_same v w same fair h is = fair.held_within h (sym same ∙ is)
 
+-- a look leaves the seat's terms, its number and its entries
 pub looked_steady : (b : Bool) (word : ℕ) (v : MutView) → Steady v (looked_at b word v)
 looked_steady true word v = record { terms = refl; number = refl; entries = refl }
 looked_steady false word v = record { terms = refl; number = refl; entries = refl }

@@ -70,6 +70,7 @@ pub record StaysOnBoard (phase : ℕ → Phase) (before after : Board) : Type 0 
   -- and a forwarding word of its lane's check is not written
   pub forwarded : (o l : ℕ) → high_half (before (ForwardWord o l)) ≡ before (LaneWord l) → after (ForwardWord o l) ≡ before (ForwardWord o l)
 
+-- where no phase could keep a word that was changed, every number's loaded words stand, whatever its phase is
 pub leaves_board : {phase : ℕ → Phase} {before after : Board} → LeavesBoard before after → StaysOnBoard phase before after
 leaves_board leaves = record {
   clock = leaves Alone ClockWord refl;

@@ -23,9 +23,11 @@ set_there (x ∷ xs) (suc i) a b e = set_there xs i a b e
 pub sits_once : (views : List View) (id : ℕ) (x y : View) → Sits views id x → Sits views id y → x ≡ y
 sits_once views id x y p q = some-injective x y (sym p ∙ q)
 
+-- a view that was joined away is not a mutator's
 pub gone_is_no_mutator : (u : MutView) → Gone ≡ Mut u → ⊥
 gone_is_no_mutator u e = absurd cc
 
+-- one view is one mutator's view
 pub mut_is : (v w : MutView) → Mut v ≡ Mut w → v ≡ w
 mut_is v w e = ap mutator_of e
 
@@ -55,6 +57,7 @@ all_mut_set P views id w here others j u sits = ⊎_elim
 pub at_here : {A : Type 0} → (k : ℕ) (x : A) (f : ℕ → A) → at k x f k ≡ x
 at_here k x f = rw (eq-eqb k k refl) refl
 
+-- a function changed at one number is at every other number what it was
 pub at_else : {A : Type 0} → (k : ℕ) (x : A) (f : ℕ → A) (n : ℕ) → n ≢ k → at k x f n ≡ f n
 at_else k x f n apart = rw (ne_eqb n k apart) refl
 

@@ -49,6 +49,7 @@ first_same plan AvailableWord has = refl
 first_same plan (FreeWord index) has = if_none index
 first_same plan name has = refl
 
+-- a table of zeros in which the available word alone is written has the free list's length, and of the list nothing yet
 pub none_written :
     (plan : Plan) → IsWithinLimits plan → (count : ℕ) → count ≡ words_of plan → (word : ℕ) → word ≡ word_of plan AvailableWord
     → Displays plan (set (replicate count 0) word plan.copies) (board_up_to plan 0)
@@ -71,6 +72,7 @@ next_same : (plan : Plan) (count : ℕ) (name : WordName) → HasWord plan name 
 next_same plan count (FreeWord index) has = entry_same index count
 next_same plan count name has = refl
 
+-- with one index of the free list more, the words say one index more of it
 pub one_written :
     (plan : Plan) → IsWithinLimits plan → (words : List ℕ) (index : ℕ) → index < plan.copies → (word : ℕ) → word ≡ word_of plan (FreeWord index)
     → Displays plan words (board_up_to plan index)
@@ -86,5 +88,6 @@ last_same plan (FreeWord index) has = if_all (nat_lt index plan.copies) index (l
 last_same plan ClosingWord has = refl
 last_same plan name has = refl
 
+-- with every index written the words are those of the start
 pub all_written : (plan : Plan) (words : List ℕ) → Displays plan words (board_up_to plan plan.copies) → Displays plan words (first_board plan)
 all_written plan words d = displays_same plan words (board_up_to plan plan.copies) (first_board plan) (last_same plan) d

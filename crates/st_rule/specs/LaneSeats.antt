@@ -90,6 +90,7 @@ pub record FindsField (object field : ℕ) (before after : LaneView) : Type 0 wh
   pub word : ℕ
   pub view : after ≡ field_read object field word before
 
+-- check forward load: the lane has then seen a legal list that goes on from before, and is told where its version stands
 pub record FindsForward (before after : LaneView) : Type 0 where
   pub word : ℕ
   pub seen : List Event
@@ -98,6 +99,7 @@ pub record FindsForward (before after : LaneView) : Type 0 where
   pub legal : IsLegal before.terms.shape before.terms.sizes seen
   pub tells : (r : HalfRead) → before.read ≡ Some r → TellsOfVersion before r word seen
 
+-- check copy load: the word is that of the past
 pub record FindsCopy (before after : LaneView) : Type 0 where
   pub word : ℕ
   pub view : after ≡ copy_read word before

@@ -12,6 +12,7 @@ use Rattle.st_rule.specs.SeatValue.{SeatValue}
 abbrev pub no_table : TableId
 no_table = record { words = 0; slots = 0; views_name = 0; atom = 0; block = 0; offset = 0; slot_names = [] }
 
+-- sizes with which nothing can be run
 abbrev pub no_sizes : Sizes
 no_sizes = record { mutators = 0; lanes = 0; objects = 0; copies = 0; events = 0; calls = 0 }
 

@@ -57,6 +57,7 @@ LanesAt sizes world board flight =
     LanePart sizes world (λ l. board (LaneWord l)) (board AvailableWord) flight (λ o f. board (FieldWord o f)) (λ o l. board (ForwardWord o l))
     (λ c k. board (CopyWord c k)) (λ i. board (FreeWord i))
 
+-- and the part on copies: which are free, and which were drawn and are whose
 abbrev pub CopiesAt : Sizes → World → Board → ℕ → (ℕ → Option Flight) → Type 0
 CopiesAt sizes world board since flight =
     CopyPart sizes world (λ l. board (LaneWord l)) (board AvailableWord) (low_half (board ClockWord)) since flight (λ o l. board (ForwardWord o l))

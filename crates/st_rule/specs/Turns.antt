@@ -60,6 +60,7 @@ looked_at is_open word v = record v {
   board = if is_open then no_board else v.board;
 }
 
+-- the same, by the word that the load found
 abbrev pub looked : ℕ → MutView → MutView
 looked word v = looked_at (word == 0) word v
 
@@ -77,6 +78,7 @@ took was_open word seen v = record v {
   journal = if was_open then record v.journal { seen = seen } else v.journal;
 }
 
+-- the same, by the word that the exchange found
 abbrev pub took_gate : ℕ → List Event → MutView → MutView
 took_gate word seen v = took (word == 0) word seen v
 
@@ -89,6 +91,7 @@ saw_flag is_clear k word seen v = record v {
   journal = if is_clear then record v.journal { seen = seen } else v.journal;
 }
 
+-- the same, by the word that the load found
 abbrev pub saw : ℕ → ℕ → List Event → MutView → MutView
 saw k word seen v = saw_flag (word == 0) k word seen v
 
@@ -111,6 +114,7 @@ locked_at was_free object stamp word v = record v {
   held = if was_free then Some (record { object = object; stamp = stamp; loaded = []; flight = None }) else v.held;
 }
 
+-- the same, by the header that the exchange found: it was free with this stamp where it is just that
 abbrev pub locked : (object stamp word : ℕ) → MutView → MutView
 locked object stamp word v = locked_at (word == packed stamp 0) object stamp word v
 
@@ -146,6 +150,7 @@ abbrev pub one_built : Option Flight → Option Flight
 one_built None = None
 one_built (Some x) = Some (record x { built = x.built + 1 })
 
+-- and the hand that has it
 abbrev pub with_built : Option Held → Option Held
 with_built None = None
 with_built (Some h) = Some (record h { flight = one_built h.flight })
@@ -159,6 +164,7 @@ abbrev pub owed_less : ℕ → Option Flight → Option Flight
 owed_less lane None = None
 owed_less lane (Some x) = Some (record x { awaiting = without lane x.awaiting })
 
+-- and the hand that has it
 abbrev pub with_forward : ℕ → Option Held → Option Held
 with_forward lane None = None
 with_forward lane (Some h) = Some (record h { flight = owed_less lane h.flight })
@@ -217,11 +223,13 @@ left_of (Mut v) = Mut (split_one v)
 left_of (Lane l) = Lane l
 left_of Gone = Gone
 
+-- the view of the seat that is split off
 abbrev pub right_of : View → View
 right_of (Mut v) = Mut (newcomer v)
 right_of (Lane l) = Gone
 right_of Gone = Gone
 
+-- the view that two seats leave when the second is joined into the first
 abbrev pub both_of : View → View → View
 both_of (Mut v) (Mut u) = Mut (joined_with v u)
 both_of x y = x

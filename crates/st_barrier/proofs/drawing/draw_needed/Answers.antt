@@ -28,7 +28,8 @@ returns-clause-flight g c =
     c.args.fields.now c.draw-ticket.result.1 c.requires.hand.fields_are
     (ap is_any (lanes_are c.args.seat.now x.event x.obj x.stamp x.field x.value c.args.found c.args.checks.now c.requires.event c.requires.checks
     c.requires.hand.loaded c.requires.hand.held c.requires.hand.found_is) ∙ c.requires.some)
-    (index_drawn c.args.seat.now.view c.draw-ticket.new.seat.view x.event c.draw-ticket.ensures.view c.draw-ticket.result.0 c.draw-ticket.result.1 c.draw-ticket.ensures.found (omega (arith, c.draw-ticket.auto)))
+    (index_drawn c.args.seat.now.view c.draw-ticket.new.seat.view x.event c.draw-ticket.ensures.view c.draw-ticket.result.0 c.draw-ticket.result.1
+    c.draw-ticket.ensures.found (omega (arith, c.draw-ticket.auto)))
 
 pub returns-clause-awaiting : goal.returns-clause-awaiting
 returns-clause-awaiting g c =
