@@ -10,6 +10,7 @@ use Rattle.st_syntax.specs.Counts as counts
 use Rattle.st_syntax.specs.Counts.{Mention, mentions_step}
 use Rattle.st_types.specs.Statements.{mentions, mentions_layer}
 
+-- a mention without its place
 abbrev pub name_of : Mention → List ℕ
 name_of m = m.name
 

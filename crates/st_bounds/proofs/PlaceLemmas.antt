@@ -74,6 +74,7 @@ targets_of_call name args site = ap has_targets (sym (stmt.rolls-Call name args 
 targets_of_check : (body : Expr) (site : Site) → has_targets (stmt.Check body site) ≡ true
 targets_of_check body site = ap has_targets (sym (stmt.rolls-Check body site)) ∙ fold-roll-Stmt Bool targets_node (Stmt-F.Check body site)
 
+-- two that are true are true together
 pub both : {a b : Bool} → a ≡ true → b ≡ true → (a && b) ≡ true
 both {a = a} {b = b} h k = ap (λ c. c && b) h ∙ k
 

@@ -168,6 +168,7 @@ proc_checks (x ∷ xs) =
     let later : how_many what.Checks (flat_map c.proc_items xs) ≡ (all_of (map proc_tally xs)).checks = proc_checks xs in
     omega (arith, head, one, all, later, (body_counted x.body).checks)
 
+-- the check statements that the limits count in threads are those of their bodies
 pub thread_checks : (threads : List Thread) → how_many what.Checks (flat_map c.thread_items threads) ≡ (all_of (map thread_tally threads)).checks
 thread_checks [] = refl
 thread_checks (x ∷ xs) =
@@ -188,6 +189,7 @@ proc_names (x ∷ xs) counts long none =
     let later : (all_of (map proc_tally xs)).names ≤ MOST_ARGS = proc_names xs (fold counted counts (c.proc_items x)) (folded_length (c.proc_items x) counts long) parts.1 in
     omega (arith, here, later)
 
+-- within the limits, each check statement of a thread has few distinct names
 pub thread_names : (threads : List Thread) (counts : List ℕ) → length counts ≡ 9 → first_from excess counted counts (flat_map c.thread_items threads) ≡ None
     → (all_of (map thread_tally threads)).names ≤ MOST_ARGS
 thread_names [] counts long none = omega arith

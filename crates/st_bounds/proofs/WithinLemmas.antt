@@ -46,6 +46,7 @@ few_names p none =
     let threads : (all_of (map thread_tally p.threads)).names ≤ MOST_ARGS = thread_names p.threads inner.before_threads inner.long_threads inner.threads in
     omega (arith, procs, threads)
 
+-- the law: a tree that the grammar spells and that is within the limits on counts keeps the condition of `check_types`
 pub within_limits : (text : List ℕ) (tokens : List Token) (p : Program) → IsTokensOf text tokens → Parses (terminals_of text tokens) p
     → IsWithinCounts p → IsWithinLimits p
 within_limits text tokens p lexed spelled within =

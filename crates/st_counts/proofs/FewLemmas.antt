@@ -226,6 +226,7 @@ few {p = p} w t h within =
     let most_of : at at_start w + how_many w (items_of p) ≤ most w = total w (items_of p) at_start refl within (lasts_items w t h) start in
     omega (arith, most_of)
 
+-- counting many items leaves nine counts
 pub folded_length : (ts : List Item) (counts : List ℕ) → length counts ≡ 9 → length (fold counted counts ts) ≡ 9
 folded_length [] counts long = long
 folded_length (t ∷ ts) counts long = folded_length ts (counted counts t) (counted_length counts t long)
@@ -374,6 +375,7 @@ pub record Bodies (p : Program) : Type 0 where
   pub procs : first_from excess counted before_procs (flat_map c.proc_items p.procs) ≡ None
   pub threads : first_from excess counted before_threads (flat_map c.thread_items p.threads) ≡ None
 
+-- where no count of a tree is in excess, none is among its predicates, its procedures and its threads, each from the counts before them
 pub bodies_of : (p : Program) → first_from excess counted at_start (items_of p) ≡ None → Bodies p
 unfolding items_of
 bodies_of p e =
@@ -403,9 +405,11 @@ pub record Spelled (p : Program) : Type 0 where
   pub procs : AreMany IsProc of_procs p.procs
   pub threads : AreMany IsThread of_threads p.threads
 
+-- a spelled program has the words of its procedures and of its threads
 pub spelled : {ts : List Terminal} {p : Program} → Parses ts p → Spelled p
 spelled (g.program {ws = ws} {xs = xs} a b d f h) = record { of_procs = ws; of_threads = xs; procs = f; threads = h }
 
+-- a spelled tree within the limits on counts has few of each: what the limits say of items, said of the tree
 pub few_of_each : (ts : List Terminal) (p : Program) → Parses ts p → IsWithinCounts p → HasFewOfEach p
 few_of_each ts p h within =
     let none : first_from excess counted at_start (items_of p) ≡ None = within_none excess counted at_start (items_of p) within in

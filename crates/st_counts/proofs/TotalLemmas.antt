@@ -44,11 +44,13 @@ Lasts w [] = Unit {0}
 Lasts w (item.Anew v ∷ ts) = (slot w ≢ slot v) × Lasts w ts
 Lasts w (item.One v site ∷ ts) = Lasts w ts
 
+-- two lists one after the other have of a kind what both have together
 pub ones_append : (w : What) (xs ys : List Item) → how_many w (xs ++ ys) ≡ how_many w xs + how_many w ys
 ones_append w [] ys = omega arith
 ones_append w (item.Anew v ∷ xs) ys = ones_append w xs ys
 ones_append w (item.One v site ∷ xs) ys = let h : how_many w (xs ++ ys) ≡ how_many w xs + how_many w ys = ones_append w xs ys in omega (arith, h)
 
+-- where each thing gives at least one item of a kind, there are no more things than items
 pub ones_each : {A : Type 0} (w : What) (items : A → List Item) → ((x : A) → 1 ≤ how_many w (items x)) → (xs : List A)
     → length xs ≤ how_many w (flat_map items xs)
 ones_each w items h [] = omega arith
@@ -58,15 +60,18 @@ ones_each w items h (x ∷ xs) =
     let both : how_many w (items x ++ flat_map items xs) ≡ how_many w (items x) + how_many w (flat_map items xs) = ones_append w (items x) (flat_map items xs) in
     omega (arith, here, later, both)
 
+-- a count that neither of two lists begins anew is not begun anew by both, one after the other
 pub lasts_append : (w : What) (xs ys : List Item) → Lasts w xs → Lasts w ys → Lasts w (xs ++ ys)
 lasts_append w [] ys h k = k
 lasts_append w (item.Anew v ∷ xs) ys h k = (h.0, lasts_append w xs ys h.1 k)
 lasts_append w (item.One v site ∷ xs) ys h k = lasts_append w xs ys h k
 
+-- nor by the items of many things, where those of each do not
 pub lasts_each : {A : Type 0} (w : What) (items : A → List Item) → ((x : A) → Lasts w (items x)) → (xs : List A) → Lasts w (flat_map items xs)
 lasts_each w items h [] = tt
 lasts_each w items h (x ∷ xs) = lasts_append w (items x) (flat_map items xs) (h x) (lasts_each w items h xs)
 
+-- each kind has its own count among the nine
 pub slot_below : (w : What) → slot w < 9
 slot_below what.Classes = omega arith
 slot_below what.Fields = omega arith
@@ -103,6 +108,7 @@ room m n x e = by (nat_lt m n) refl e
     by true is e = search (rules, is)
     by false is e = absurd cc
 
+-- counting an item leaves nine counts
 pub counted_length : (counts : List ℕ) (t : Item) → length counts ≡ 9 → length (counted counts t) ≡ 9
 counted_length counts (item.Anew v) e = length-set counts (slot v) 0 ∙ e
 counted_length counts (item.One v site) e = length-set counts (slot v) (at counts v + 1) ∙ e

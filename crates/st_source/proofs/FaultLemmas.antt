@@ -65,6 +65,7 @@ one_excess text tokens w v a b h k =
     let moved : IsFirstExcess h.tree v b = subst (λ p. IsFirstExcess p v b) same k.first in
     ap (λ x. parse.TooMany x.0 x.1) (one_first counts.excess counts.counted counts.at_start (items_of h.tree) (w, a) (v, b) h.first moved)
 
+-- tokens have at most one fault: of which kind it is and where is told by them alone
 pub one_parse_fault : (text : List ℕ) (tokens : List Token) (a b : ParseError) → HasParseFault text tokens a → HasParseFault text tokens b → a ≡ b
 one_parse_fault text tokens parse.Memory b h k = absurd h
 one_parse_fault text tokens (parse.Unexpected a) parse.Memory h k = absurd k
@@ -99,6 +100,7 @@ parse_means text tokens (parse.TooLong at) h = h
 no_memory_fault : (text : List ℕ) (tokens : List Token) (why : ParseError) → HasParseFault text tokens why → why ≢ parse.Memory
 no_memory_fault text tokens why h e = subst (HasParseFault text tokens) e h
 
+-- tokens that have a fault have no tree
 pub no_program : (text : List ℕ) (tokens : List Token) (why : ParseError) (p : Program) → HasParseFault text tokens why → IsProgramOf text tokens p → ⊥
 no_program text tokens why p h k =
     told_no_tree text tokens (Err why) (parse_means text tokens why h) why refl (no_memory_fault text tokens why h) p k
@@ -110,6 +112,7 @@ one_stop text f g a b h k =
     let places : a ≡ b = h.place ∙ ap (place_at text) same.0 ∙ sym k.place in
     ap (λ x. error_at x a) same.1 ∙ ap (error_at g) places
 
+-- a text has at most one place at which no token stands, and one fault there
 pub one_lex_fault : (text : List ℕ) (a b : LexError) → HasLexFault text a → HasLexFault text b → a ≡ b
 one_lex_fault text lex.Memory b h k = absurd h
 one_lex_fault text (lex.BadByte a) lex.Memory h k = absurd k
@@ -119,6 +122,7 @@ one_lex_fault text (lex.LongNumber a) lex.Memory h k = absurd k
 one_lex_fault text (lex.LongNumber a) (lex.BadByte b) h k = one_stop text fault.LongNumber fault.BadByte a b h k
 one_lex_fault text (lex.LongNumber a) (lex.LongNumber b) h k = one_stop text fault.LongNumber fault.LongNumber a b h k
 
+-- a text that has such a place has no tokens
 pub no_tokens : (text : List ℕ) (tokens : List Token) (why : LexError) → HasLexFault text why → IsTokensOf text tokens → ⊥
 no_tokens text tokens lex.Memory h k = h
 no_tokens text tokens (lex.BadByte at) h k = lexed.not_both text tokens h.offset fault.BadByte k h.first

@@ -36,6 +36,7 @@ one_tree_of text a b h k =
     let same : k.tokens ≡ h.tokens = one_list text k.tokens h.tokens k.lexed h.lexed in
     one_tree (terminals_of text h.tokens) a b h.parsed.spelled (subst (λ ts. Parses (terminals_of text ts) b) same k.parsed.spelled)
 
+-- a text is the source of at most one tree
 pub one_program : (text : List ℕ) (a b : Program) → IsSourceOf text a → IsSourceOf text b → a ≡ b
 one_program text a b h k = one_tree_of text a b h.spelled k.spelled
 
@@ -52,6 +53,7 @@ head_or d (e ∷ es) = e
 no_fault : (why : TypeError) (later : List TypeError) → [] ≡ why ∷ later → ⊥
 no_fault why later e = cc
 
+-- no text is both a source and refused
 pub not_both : (text : List ℕ) (tree : Program) (why : SourceError) → IsSourceOf text tree → IsRefusedFor text why → ⊥
 not_both text tree error.Memory h k = k
 not_both text tree error.TooLong h k = omega (arith, h.spelled.short, k)
@@ -70,6 +72,7 @@ one_broken_rule text a b h k =
     let same : h.tree ≡ k.tree = one_tree_of text h.tree k.tree h.spelled k.spelled in
     ap (head_or a) (sym h.first ∙ ap faults_of same ∙ k.first)
 
+-- a text is refused for at most one reason
 pub one_refusal : (text : List ℕ) (a b : SourceError) → IsRefusedFor text a → IsRefusedFor text b → a ≡ b
 one_refusal text error.Memory b h k = absurd h
 one_refusal text error.TooLong error.Memory h k = absurd k

@@ -27,6 +27,7 @@ lex_text lex.Memory = codes "no memory"
 lex_text (lex.BadByte at) = place_text at ++ codes " bad byte"
 lex_text (lex.LongNumber at) = place_text at ++ codes " long number"
 
+-- of the tree: the place, and what is wrong there or what there is too much of
 abbrev pub parse_text : ParseError → List ℕ
 parse_text parse.Memory = codes "no memory"
 parse_text (parse.Unexpected at) = place_text at ++ codes " unexpected"
@@ -34,6 +35,7 @@ parse_text (parse.TooMany what at) = place_text at ++ (codes " too many " ++ wha
 parse_text (parse.TooDeep at) = place_text at ++ codes " too deep"
 parse_text (parse.TooLong at) = place_text at ++ codes " too long"
 
+-- of types: the place, and the rule that is broken there
 abbrev pub type_text : TypeError → List ℕ
 type_text types.Memory = codes "no memory"
 type_text (types.UnknownName at) = place_text at ++ codes " unknown name"

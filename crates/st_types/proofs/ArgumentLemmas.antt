@@ -39,11 +39,13 @@ all_of_mapped (e ∷ es) = ap (λ names. mentions e ++ names) (all_of_mapped es)
 pub mentions_of_call : (name : List ℕ) (args : List Expr) (site : Site) → mentions (Call name args site) ≡ flat_map mentions args
 mentions_of_call name args site = ap mentions (sym (rolls-Call name args site)) ∙ fold-roll-Expr (List (List ℕ)) mentions_layer (Expr-F.Call name args site) ∙ all_of_mapped args
 
+-- an operator mentions what its left operand does, and then what its right one does
 pub mentions_of_binary : (op : Op) (left right : Expr) (site : Site) → mentions (Binary op left right site) ≡ mentions left ++ mentions right
 mentions_of_binary op left right site =
     ap mentions (sym (rolls-Binary op left right site)) ∙ fold-roll-Expr (List (List ℕ)) mentions_layer (Expr-F.Binary op left right site)
     ∙ ap (λ names. mentions left ++ names) (append-nil (mentions right))
 
+-- a condition mentions what its test does, and then what its branches do
 pub mentions_of_cond : (test left right : Expr) (site : Site) → mentions (Cond test left right site) ≡ mentions test ++ (mentions left ++ mentions right)
 mentions_of_cond test left right site =
     ap mentions (sym (rolls-Cond test left right site)) ∙ fold-roll-Expr (List (List ℕ)) mentions_layer (Expr-F.Cond test left right site)

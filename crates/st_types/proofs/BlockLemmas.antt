@@ -14,10 +14,12 @@ abbrev pub onto : List Command → Block → Block
 onto [] block = block
 onto (c ∷ cs) block = command_then c (onto cs block)
 
+-- one more command in front of a block stands behind those in front of it
 pub onto_more : (front : List Command) (c : Command) (block : Block) → onto (front ++ c ∷ []) block ≡ onto front (command_then c block)
 onto_more [] c block = refl
 onto_more (d ∷ front) c block = ap (command_then d) (onto_more front c block)
 
+-- commands in front of the empty block are the block of these commands
 pub onto_none : (front : List Command) → onto front no_commands ≡ commands_of front
 onto_none [] = refl
 onto_none (c ∷ front) = ap (command_then c) (onto_none front)

@@ -73,6 +73,7 @@ pub no_faults : {A : Type 0} (faults : List TypeError) (a b : A) → verdict fau
 no_faults [] a b h = refl
 no_faults (x ∷ faults) a b h = cc
 
+-- where a verdict is a value, it is the one that was to be given
 pub value_is : {A : Type 0} (faults : List TypeError) (a b : A) → verdict faults a ≡ Ok b → a ≡ b
 value_is [] a b h = cc
 value_is (x ∷ faults) a b h = cc

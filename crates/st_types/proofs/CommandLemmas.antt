@@ -127,6 +127,7 @@ pub record HasBefore (founds : List Found) (all : List Launched) (before : Reach
   pub locals : AreFirst before.locals founds
   pub checks : IsFront before.checks all
 
+-- what holds behind a walk, that the locals and check statements of the whole body begin with these, holds in front of it
 abbrev pub GoesBack : (Reached → Reached) → Type 0
 GoesBack f = (founds : List Found) (all : List Launched) (r : Reached) → HasBefore founds all (f r) → HasBefore founds all r
 
@@ -166,11 +167,13 @@ layer_back p (Stmt-F.While cond body site) founds all r h = block_back (map (wal
 layer_back p (Stmt-F.Call name args site) founds all r h = h
 layer_back p (Stmt-F.Check body site) founds all r h = record { locals = h.locals; checks = front_of r.checks _ all h.checks }
 
+-- so it is with any statement
 pub walk_back : (p : trees.Program) (s : Stmt) → IsBack p s
 walk_back p = ind-Stmt (IsBack p) (λ x y is.
     subst (λ z. IsBack p (roll-Stmt z)) is
     (subst (λ (f : Reached → Walked). GoesBack (λ r. (f r).reached)) (sym (fold-roll-Stmt (Reached → Walked) (walk_node p) (bare_back p y))) (layer_back p y)))
 
+-- and with statements, one after another
 pub statements_back : (p : trees.Program) (ss : List Stmt) → GoesBack (λ r. (walk_all (map (walk p) ss) r).reached)
 statements_back p ss = all_back (map (walk p) ss) (each ss)
   where
@@ -186,6 +189,7 @@ pub record Around : Type 0 where
   pub founds : List Found
   pub all : List Launched
 
+-- tree, shape and program belong together, the locals of the body have known kinds, and these are all check statements of the program and their kinds
 pub record IsAround (a : Around) : Type 0 where
   pub stands : StandsFor a.tree a.shape a.program
   pub declared : AllByRecursion (IsDeclaredFound a.tree) a.founds
@@ -196,6 +200,7 @@ pub record IsAround (a : Around) : Type 0 where
 abbrev pub kinds_at_end : Around → List Kind
 kinds_at_end a = map known_kind a.founds
 
+-- the setting of its expressions: the shape, and the locals as they are at the end of the body
 abbrev pub setting_of : Around → Setting
 setting_of a = formed.plain_setting a.shape (kinds_at_end a)
 
@@ -208,11 +213,13 @@ pub record IsRightWalk (a : Around) (before after : List Launched) (Right : Type
   pub right : Right
   pub launches : AllByRecursion (IsRightLaunch a.shape a.program) before → AllByRecursion (IsRightLaunch a.shape a.program) after
 
+-- where a walk over a statement has no faults, the command that it gives is right in the body, and so are the check statements that it adds
 abbrev pub WalksRight : Around → (Reached → Walked) → Type 0
 WalksRight a f =
     (r : Reached) → (f r).faults ≡ [] → HasBefore a.founds a.all (f r).reached
     → IsRightWalk a r.checks (f r).reached.checks (formed.IsRightCommand a.shape a.program (kinds_at_end a) (f r).command)
 
+-- the same of a walk over statements, and the block that it gives
 abbrev pub BlocksRight : Around → (Reached → WalkedBlock) → Type 0
 BlocksRight a f =
     (r : Reached) → (f r).faults ≡ [] → HasBefore a.founds a.all (f r).reached
@@ -359,10 +366,12 @@ pub all_first : (locals : List Local) → AreFirst locals (map (λ l. l.kind) lo
 all_first [] = tt
 all_first (l ∷ locals) = (refl, all_first locals)
 
+-- to take the kinds of locals and then the known ones is one step
 pub kinds_twice : (locals : List Local) → map known_kind (map (λ l. l.kind) locals) ≡ map (λ l. known_kind l.kind) locals
 kinds_twice [] = refl
 kinds_twice (l ∷ locals) = ap (λ ks. known_kind l.kind ∷ ks) (kinds_twice locals)
 
+-- locals of known kinds give a list of known kinds
 pub kinds_are_declared : (p : trees.Program) (locals : List Local) → AllByRecursion (λ l. IsDeclaredFound p l.kind) locals → AllByRecursion (IsDeclaredFound p) (map (λ l. l.kind) locals)
 kinds_are_declared p [] d = tt
 kinds_are_declared p (l ∷ locals) d = (d.0, kinds_are_declared p locals d.1)
@@ -376,7 +385,8 @@ calling_at p shape q locals w d =
     (calling_is p shape q locals (map (λ (l : Local). l.kind) locals) w (all_first locals) (kinds_are_declared p locals d))
 
 check_right : (a : Around) → IsAround a → (r : Reached) (body : Expr) (site : Site)
-    → (judged (check_scope a.tree r.locals body) body).faults ++ (asks a_bool (judged (check_scope a.tree r.locals body) body).seen.site (judged (check_scope a.tree r.locals body) body).seen.kind ++ []) ≡ []
+    → (judged (check_scope a.tree r.locals body) body).faults
+    ++ (asks a_bool (judged (check_scope a.tree r.locals body) body).seen.site (judged (check_scope a.tree r.locals body) body).seen.kind ++ []) ≡ []
     → HasBefore a.founds a.all (launch a.tree r body site)
     → IsRightWalk a r.checks (launch a.tree r body site).checks (formed.IsRightCommand a.shape a.program (kinds_at_end a) (a_launch (length r.checks)))
 check_right a w r body site h b =
@@ -401,6 +411,7 @@ check_right a w r body site h b =
       launches = λ x. all_append (IsRightLaunch a.shape a.program) r.checks (l ∷ []) x (own, tt);
     }
 
+-- both parts of a conjunction that is true are true
 pub both_true : (x y : Bool) → (x && y) ≡ true → (x ≡ true) × (y ≡ true)
 both_true true y h = (refl, h)
 both_true false y h = cc

@@ -101,6 +101,7 @@ pub locals_taken : (locals found : List code_local.Local) (numbers given : List 
     → map local_view found ≡ locals_at (map local_view locals) (args_of_check (map local_view locals) e)
 locals_taken locals found numbers given e n g f = rw (f, g, n) (found_views locals (args_of_check (map local_view locals) e))
 
+-- a check takes no more locals than its expression has distinct names
 pub few_taken : (locals found : List code_local.Local) (numbers given : List ℕ) (e : Expr)
     → numbers ≡ args_of_check (map local_view locals) e → given ≡ numbers → found ≡ flat_map (λ n. if_any (slice_get locals n)) given
     → length found ≤ distinct_names e

@@ -11,6 +11,7 @@ abbrev pub with_front : {A : Type 0} → List A → Checked (List A) → Checked
 with_front front (Ok rest) = Ok (front ++ rest)
 with_front front (Err e) = Err e
 
+-- no values in front change nothing
 pub nothing_in_front : {A : Type 0} (r : Checked (List A)) → with_front [] r ≡ r
 nothing_in_front (Ok rest) = refl
 nothing_in_front (Err e) = refl

@@ -13,6 +13,7 @@ one_earlier : {X : Type 0} (f : List X → X → List TypeError) (xs : List X) (
     → each_with_earlier f (take (i + 1) xs) (drop (i + 1) xs) ≡ each_with_earlier f (take i xs) (drop i xs)
 one_earlier f xs i d h e = rw (drop-cons xs i d h, e, add-one, take-suc xs i d h) refl
 
+-- a turn of the loop: where the one at the index has no fault, the faults left behind it are still all faults
 pub earlier_goes : {X : Type 0} (f : List X → X → List TypeError) (xs : List X) (i : ℕ) (d : X) → i < length xs → d ≡ get_or xs i d
     → Ok (tt {0}) ≡ verdict (f (take i xs) d) (tt {0}) → each_with_earlier f (take i xs) (drop i xs) ≡ each_with_earlier f [] xs
     → each_with_earlier f (take (i + 1) xs) (drop (i + 1) xs) ≡ each_with_earlier f [] xs
@@ -39,6 +40,7 @@ earlier_fails f xs i d e a h is err inv =
     let here : Err e ≡ verdict (f (take i xs) (get_or xs i d)) (tt {0}) = err ∙ ap (λ x. verdict (f (take i xs) x) (tt {0})) is in
     ap (λ fs. verdict fs a) (sym inv) ∙ (rw (drop-cons xs i d h) (first_of_more (f (take i xs) (get_or xs i d)) _ (tt {0}) a e (sym here)))
 
+-- an error that is handed on is what was expected
 pub handed : {A : Type 0} (result expected : Checked A) (e : TypeError) → IsErrAnd result (λ x. x ≡ e) → expected ≡ Err e → result ≡ expected
 handed (Ok a) expected e r h = elim r [ ]
 handed (Err x) expected e r h = ap Err r ∙ sym h
@@ -57,6 +59,7 @@ preds_fail f at given xs i d e h is g k inv =
     (λ err. subst (λ ys. verdict (each_with_earlier f [] ys) (map at ys) ≡ Err e) g
     (earlier_fails f given i d e (map at given) h is (sym (same_fault (f (take i given) d) (at d) (tt {0}) e err)) inv))
 
+-- behind the last, all declarations are without faults, and what was made of them is what the definition makes of each
 pub preds_are : {X A C : Type 0} (f : List X → X → List TypeError) (at : X → A) (view : C → A) (given xs : List X) (i : ℕ) (done all : List C) → length given ≤ i
     → given ≡ xs → all ≡ done → each_with_earlier f (take i given) (drop i given) ≡ each_with_earlier f [] given → map view done ≡ map at (take i given)
     → verdict (each_with_earlier f [] xs) (map at xs) ≡ Ok (map view all)

@@ -19,6 +19,7 @@ abbrev first_forgotten : List views.Local → List views.Local
 first_forgotten [] = []
 first_forgotten (l ∷ ls) = forgotten l ∷ ls
 
+-- a turn of the loop: the local at the index is known no more, so one more is forgotten
 pub forget_one : (old new : List Local) (i : ℕ) (d : Local) → i < length new → AreForgotten i old new
     → AreForgotten (suc i) old (set new i (record (get_or new i d) { is_known = false }))
 forget_one old [] i d h k = absurd (omega arith)

@@ -302,8 +302,10 @@ formed_at p h fits classes shared preds procs threads =
     } in
     let w : IsWhole p = record { stands = stands; fit = fit } in
     let targets = both_true (are_all (map (λ (x : Proc). have_targets x.body) p.procs)) (are_all (map (λ (x : Thread). have_targets x.body) p.threads)) h.targets in
-    let fine_procs = fine_bodies (λ (x : Proc). x.params) (λ (x : Proc). x.body) p.procs (recursion_from_All (λ (x : Proc). IsSmallBody x.params x.body) p.procs h.small_procs) targets.0 (omega (arith, names)) in
-    let fine_threads = fine_bodies (λ (x : Thread). []) (λ (x : Thread). x.body) p.threads (recursion_from_All (λ (x : Thread). IsSmallBody [] x.body) p.threads h.small_threads) targets.1 (omega (arith, names)) in
+    let fine_procs = fine_bodies (λ (x : Proc). x.params) (λ (x : Proc). x.body) p.procs
+    (recursion_from_All (λ (x : Proc). IsSmallBody x.params x.body) p.procs h.small_procs) targets.0 (omega (arith, names)) in
+    let fine_threads = fine_bodies (λ (x : Thread). []) (λ (x : Thread). x.body) p.threads
+    (recursion_from_All (λ (x : Thread). IsSmallBody [] x.body) p.threads h.small_threads) targets.1 (omega (arith, names)) in
     let of_threads = routines_right p (λ (x : Thread). IsFine [] x.body) (walk_thread p) (thread_right p w) [] (walked_procs p).checks p.threads fine_threads threads (all_front all) in
     let of_procs = routines_right p (λ (x : Proc). IsFine x.params x.body) (walk_proc p) (proc_right p w) [] [] p.procs fine_procs procs of_threads.front in
     record {
@@ -319,6 +321,7 @@ formed_at p h fits classes shared preds procs threads =
       checks = checks_right (shape_at p) (program_at p) all (of_threads.launches (of_procs.launches tt));
     }
 
+-- the theorem: the resolution of a tree within the limits that keeps every rule is well formed with its shape
 pub well_formed : (p : trees.Program) → IsWithinLimits p → faults_of p ≡ [] → IsWellFormed (shape_of p) (resolution p)
 unfolding faults_of shape_of resolution
 well_formed p h none =

@@ -26,11 +26,13 @@ in_code before after t h = record {
   checks = simp length-map at h.checks;
 }
 
+-- behind a statement the walk of the code has the locals and check statements more that the statement has
 pub behind_statement : (p : Program) (s : trees.Stmt) (before after : Walk) (done : Stmt) → step p s (reached_of before) ≡ Ok (stepped_at after done) → IsBehind before after (tally s)
 behind_statement p s before after done h =
     let same = value_is (walk p s (reached_of before)).faults (stepped_of (walk p s (reached_of before))) (stepped_at after done) (sym (step_is_first p s (reached_of before)) ∙ h) in
     in_code before after (tally s) (subst (λ (t : Stepped). HasGrown (reached_of before) t.reached (tally s)) same (walk_grows p s (reached_of before)))
 
+-- the same behind statements, one after another
 pub behind_statements : (p : Program) (ss : List trees.Stmt) (before after : Walk) (done : List Stmt)
     → step_all (map (step p) ss) (reached_of before) ≡ Ok (stepped_block_at after done) → IsBehind before after (tally_all ss)
 behind_statements p ss before after done h =
@@ -38,6 +40,7 @@ behind_statements p ss before after done h =
     let same = value_is walked.faults (stepped_block_of walked) (stepped_block_at after done) (sym (steps_are_first p ss (reached_of before)) ∙ h) in
     in_code before after (tally_all ss) (subst (λ (t : SteppedBlock). HasGrown (reached_of before) t.reached (tally_all ss)) same (walk_all_grows p ss (reached_of before)))
 
+-- and behind a block, whose locals stay in the list when they are known no more
 pub behind_block : (p : Program) (ss given : List trees.Stmt) (before after : Walk) (done : List Stmt) → given ≡ ss
     → step_block (map (step p) given) (reached_of before) ≡ Ok (stepped_block_at after done) → IsBehind before after (tally_all ss)
 behind_block p ss given before after done g h =
@@ -52,6 +55,7 @@ behind_block p ss given before after done g h =
 pub room_for_first : (w : Walk) (a b : Tally) → HasRoom w (joined a b) → HasRoom w a
 room_for_first w a b h = record { locals = omega (arith, h.locals); checks = omega (arith, h.checks); names = omega (arith, h.names) }
 
+-- what the first of two parts leaves is room for the second
 pub room_for_second : (before after : Walk) (a b : Tally) → HasRoom before (joined a b) → IsBehind before after a → HasRoom after b
 room_for_second before after a b h k = record {
   locals = omega (arith, h.locals, k.locals);

@@ -33,6 +33,7 @@ made_goes view at front old new c xs i d h is n same inv =
     rw (n, map-append view old (c ∷ []), inv, take_more xs i d h, map-append at (take i xs) (get_or xs i d ∷ []), ← is, same)
     (append_assoc front (map at (take i xs)) (at d ∷ []))
 
+-- what is told of the one at the index joins what was told of those in front
 pub collected_goes : {X A : Type 0} (at : X → A) (old new : List A) (a : A) (xs : List X) (i : ℕ) (d : X) → i < length xs → d ≡ get_or xs i d
     → new ≡ old ++ a ∷ [] → a ≡ at d → old ≡ map at (take i xs) → new ≡ map at (take (i + 1) xs)
 collected_goes at old new a xs i d h is n same inv = rw (n, inv, take_more xs i d h, map-append at (take i xs) (get_or xs i d ∷ []), ← is, same) refl
@@ -57,6 +58,7 @@ room_for_procs p start h e = record {
   few_names = omega (arith, h.arguments);
 }
 
+-- behind the procedures, the limits leave room for all threads
 pub room_for_threads : (p : Program) (start mid : Vec code_launched.Launched Global) (procs : List Body) → IsWithinLimits p → start.items ≡ []
     → routed_all (walk_routines (walk_proc p) [] (map launched_of start.items) p.procs) ≡ Ok (routed_all_at mid procs)
     → HasRoomFor mid (all_of (map thread_tally p.threads))
@@ -85,6 +87,7 @@ procs_first : (p : Program) (start : Vec code_launched.Launched Global) → star
     → walk_routines (walk_proc p) [] (map launched_of start.items) p.procs ≡ walked_procs p
 procs_first p start e = ap (λ ls. walk_routines (walk_proc p) [] (map launched_of ls) p.procs) e
 
+-- procedures and then threads without faults are the bodies of the program
 pub bodies_are : (p : Program) (start mid after : Vec code_launched.Launched Global) (procs threads : List Body) → start.items ≡ []
     → routed_all (walk_routines (walk_proc p) [] (map launched_of start.items) p.procs) ≡ Ok (routed_all_at mid procs)
     → routed_all (walk_routines (walk_thread p) [] (map launched_of mid.items) p.threads) ≡ Ok (routed_all_at after threads)
@@ -102,6 +105,7 @@ bodies_are p start mid after procs threads e h k =
     (ap (λ (r : RoutedAll). let x : Parts = record { procs = w.routines; threads = r.routines; checks = r.checks } in Ok x) same_then
     ∙ ap (λ (r : RoutedAll). let x : Parts = record { procs = r.routines; threads = map routine_of threads; checks = map launched_of after.items } in Ok x) same)
 
+-- a fault of the procedures is the first of the bodies
 pub procs_fail : (p : Program) (start : Vec code_launched.Launched Global) (e : TypeError) → start.items ≡ []
     → Fails e (routed_all (walk_routines (walk_proc p) [] (map launched_of start.items) p.procs)) → Fails e (walked_bodies p)
 procs_fail p start e n h =
@@ -113,6 +117,7 @@ second_of_more : {A B : Type 0} (xs ys : List TypeError) (a : A) (b : B) (e : Ty
 second_of_more xs [] a b e h k = cc
 second_of_more xs (y ∷ ys) a b e h k = let same : y ≡ e = cc in rw (h, same) refl
 
+-- where they have none, one of the threads is
 pub threads_fail : (p : Program) (start mid : Vec code_launched.Launched Global) (procs : List Body) (e : TypeError) → start.items ≡ []
     → routed_all (walk_routines (walk_proc p) [] (map launched_of start.items) p.procs) ≡ Ok (routed_all_at mid procs)
     → Fails e (routed_all (walk_routines (walk_thread p) [] (map launched_of mid.items) p.threads)) → Fails e (walked_bodies p)
@@ -131,12 +136,14 @@ three_parts : (p : Program) → faults_of p
 unfolding faults_of
 three_parts p = simp (append_assoc, append-nil)
 
+-- a fault of classes or shared variables is the first of the whole tree
 pub cells_fail : (p : Program) (e : TypeError) → Err e ≡ verdict (each_with_earlier (class_faults p) [] p.classes ++ fields_faults p p.shared) (tt {0})
     → verdict (faults_of p) (resolved_of p) ≡ Err e
 cells_fail p e h =
     ap (λ fs. verdict fs (resolved_of p)) (three_parts p)
     ∙ first_of_more (each_with_earlier (class_faults p) [] p.classes ++ fields_faults p p.shared) _ (tt {0}) (resolved_of p) e (sym h)
 
+-- where they have none, one of the predicates is
 pub preds_fail : (p : Program) (e : TypeError) → Ok (tt {0}) ≡ verdict (each_with_earlier (class_faults p) [] p.classes ++ fields_faults p p.shared) (tt {0})
     → Fails e (verdict (each_with_earlier (pred_faults p) [] p.preds) (map (predicate_at p) p.preds)) → Fails e (verdict (faults_of p) (resolved_of p))
 preds_fail p e c h =
@@ -146,6 +153,7 @@ preds_fail p e c h =
     ∙ second_of_more cells _ (resolved_of p) (resolved_of p) e (no_faults cells (tt {0}) (tt {0}) (sym c))
     (first_of_more (each_with_earlier (pred_faults p) [] p.preds) _ _ (resolved_of p) e k))
 
+-- where these have none either, one of the bodies is
 pub bodies_fail : (p : Program) (preds : List Pred) (e : TypeError)
     → Ok (tt {0}) ≡ verdict (each_with_earlier (class_faults p) [] p.classes ++ fields_faults p p.shared) (tt {0})
     → verdict (each_with_earlier (pred_faults p) [] p.preds) (map (predicate_at p) p.preds) ≡ Ok (map predicate_of preds)
@@ -165,6 +173,7 @@ whole_of p preds parts = record {
   shape = record { classes = class_kinds p; checks = map (λ l. l.kinds) parts.checks };
 }
 
+-- where no part has a fault, the parts together are the resolution of the tree and its shape
 pub resolved_is : (p : Program) (preds : List Pred) (b : Bodies) (n : Numbered)
     → Ok (tt {0}) ≡ verdict (each_with_earlier (class_faults p) [] p.classes ++ fields_faults p p.shared) (tt {0})
     → verdict (each_with_earlier (pred_faults p) [] p.preds) (map (predicate_at p) p.preds) ≡ Ok (map predicate_of preds)
@@ -204,6 +213,7 @@ pub nothing_given : {A : Type 0} (P : A → Type 0) (result : Checked A) (e : Ty
 nothing_given P (Ok a) e r = elim r [ ]
 nothing_given P (Err x) e r = tt
 
+-- an error that is handed on, unless memory ran out, is the first of the faults
 pub first_told : {A B : Type 0} (result : Checked A) (faults : List TypeError) (b : B) (e : TypeError) → IsErrAnd result (λ x. x ≡ e) → Fails e (verdict faults b)
     → IfErr result (λ x. IsFirstFault x faults)
 first_told (Ok a) faults b e r h = elim r [ ]

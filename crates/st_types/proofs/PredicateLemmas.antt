@@ -40,6 +40,7 @@ kinds_of_params : (p : Program) (params : List Param) → map (λ (l : Local). k
 kinds_of_params p [] = refl
 kinds_of_params p (param ∷ params) = ap (λ ks. known_kind (kind_of p param.kind) ∷ ks) (kinds_of_params p params)
 
+-- a predicate whose body keeps the rules and has the kind of its value comes to its parameters' kinds, this kind and the term of the body
 pub pred_is : (p : Program) (pred : Pred) (s : ScopeView) (locals again : List code_local.Local) (seen : Seen) (found : Found) (kinds : List Kind) (result : Kind) (term : Term)
     → s ≡ pred_scope p pred → map local_view locals ≡ s.locals → typed s pred.body ≡ Ok seen → found ≡ kind_of p pred.result
     → Ok (tt {0}) ≡ verdict (asks found seen.site seen.kind) (tt {0}) → again ≡ locals → kinds ≡ map (λ l. known_kind l.kind) again
@@ -56,6 +57,7 @@ pred_is p pred s locals again seen found kinds result term v l h f k a ks r t =
     ∙ (kinds_of_views locals ∙ (ap (map (λ (x : code_local.Local). known_kind x.kind)) (sym a) ∙ sym ks))) in
     rw (none, same, ← f, asked, params, r, t) refl
 
+-- a fault of the body of a predicate is the first of the predicate's
 pub pred_body_fails : (p : Program) (pred : Pred) (s : ScopeView) (e : TypeError) → s ≡ pred_scope p pred → Fails e (typed s pred.body)
     → Fails e (verdict (pred_body_faults p pred) (predicate_at p pred))
 pred_body_fails p pred s e v h =
@@ -67,6 +69,7 @@ only_second : {A : Type 0} (xs ys : List TypeError) (a : A) (e : TypeError) → 
 only_second xs [] a e h k = cc
 only_second xs (y ∷ ys) a e h k = let same : e ≡ y = cc in rw (h, same) refl
 
+-- where the body has none, a kind that does not go with the value's is the first
 pub pred_kind_fails : (p : Program) (pred : Pred) (s : ScopeView) (seen : Seen) (found : Found) (e : TypeError) → s ≡ pred_scope p pred → typed s pred.body ≡ Ok seen
     → found ≡ kind_of p pred.result → Err e ≡ verdict (asks found seen.site seen.kind) (tt {0})
     → Fails e (verdict (pred_body_faults p pred) (predicate_at p pred))

@@ -38,6 +38,7 @@ abbrev pub onto : List Routine → Checked RoutedAll → Checked RoutedAll
 onto front (Ok r) = Ok (record { routines = front ++ r.routines; checks = r.checks })
 onto front (Err e) = Err e
 
+-- no routines in front change nothing
 pub onto_none : (r : Checked RoutedAll) → onto [] r ≡ r
 onto_none (Ok r) = refl
 onto_none (Err e) = refl
@@ -100,6 +101,7 @@ body_is p params body checks before after done kinds n b h k l =
     rw (none, l) (ap (λ (s : SteppedBlock). Ok (made s (map (λ (x : Local). known_kind x.kind) s.reached.locals))) same
     ∙ ap (λ ks. Ok (made (stepped_block_at after done) ks)) (kinds_of_views after.locals.items ∙ sym k))
 
+-- the first fault of the walk over a body is the first of the body
 pub body_fails : (p : Program) (params : List Param) (body : List trees.Stmt) (checks : List Launched) (before : Walk) (e : TypeError)
     → reached_of before ≡ record { locals = param_locals p params; checks = checks } → Fails e (step_all (map (step p) body) (reached_of before))
     → Fails e (routed (walked_body p params body checks))
@@ -117,6 +119,7 @@ body_fails p params body checks before e b h =
 pub room_for_first : (checks : Vec code_launched.Launched Global) (a b : Tally) → HasRoomFor checks (joined a b) → HasRoomFor checks a
 room_for_first checks a b h = record { few_checks = omega (arith, h.few_checks); few_names = omega (arith, h.few_names) }
 
+-- what the check statements of the first of two parts leave is room for the second
 pub room_for_second : (before after : Vec code_launched.Launched Global) (a b : Tally) → HasRoomFor before (joined a b)
     → length after.items ≡ length before.items + a.checks → HasRoomFor after b
 room_for_second before after a b h k = record { few_checks = omega (arith, h.few_checks, k); few_names = omega (arith, h.few_names) }
@@ -125,9 +128,11 @@ room_for_second before after a b h k = record { few_checks = omega (arith, h.few
 abbrev pub CountsChecks : {X : Type 0} → (List X → List Launched → X → WalkedRoutine) → (X → Tally) → Type 0
 CountsChecks {X} f t = (earlier : List X) (checks : List Launched) (x : X) → length (f earlier checks x).checks ≡ length checks + (t x).checks
 
+-- behind a procedure there are its check statements more
 pub procs_count : (p : Program) → CountsChecks (walk_proc p) proc_tally
 procs_count p earlier checks q = (walk_all_grows p q.body (record { locals = param_locals p q.params; checks = checks })).checks
 
+-- and behind a thread
 pub threads_count : (p : Program) → CountsChecks (walk_thread p) thread_tally
 threads_count p earlier checks t = (walk_all_grows p t.body (record { locals = []; checks = checks })).checks
 
@@ -140,12 +145,14 @@ pub walked_goes : {X : Type 0} (f : List X → List Launched → X → WalkedRou
 walked_goes f done new b xs i d before after whole h is k n inv =
     rw (n, map-append routine_of done (b ∷ [])) (routines_go f (map routine_of done) xs i d (map launched_of before.items) (routed_at after b) h is k ∙ inv)
 
+-- room for all declarations from an index on is room for the one at the index
 pub room_here : {X : Type 0} (t : X → Tally) (xs : List X) (i : ℕ) (d : X) (before : Vec code_launched.Launched Global) → i < length xs → d ≡ get_or xs i d
     → HasRoomFor before (all_of (map t (drop i xs))) → HasRoomFor before (t d)
 room_here t xs i d before h is room =
     let r : HasRoomFor before (joined (t (get_or xs i d)) (all_of (map t (drop (suc i) xs)))) = rw (drop-cons xs i d h) at room in
     subst (λ x. HasRoomFor before (t x)) (sym is) (room_for_first before (t (get_or xs i d)) (all_of (map t (drop (suc i) xs))) r)
 
+-- behind that one there is room for those after it
 pub room_goes : {X : Type 0} (f : List X → List Launched → X → WalkedRoutine) (t : X → Tally) (b : Body) (xs : List X) (i : ℕ) (d : X)
     (before after : Vec code_launched.Launched Global)
     → CountsChecks f t → i < length xs → d ≡ get_or xs i d → routed (f (take i xs) (map launched_of before.items) d) ≡ Ok (routed_at after b)

@@ -17,6 +17,7 @@ prefix_len_of_map : {A B : Type 0} (p : B → Bool) (f : A → B) (xs : List A) 
 prefix_len_of_map p f [] = refl
 prefix_len_of_map p f (x ∷ xs) = ap (λ n. cond (p (f x)) (1 + n) 0) (prefix_len_of_map p f xs)
 
+-- the first of some images that passes a test stands where the first does whose image passes
 pub position_of_map : {A B : Type 0} (p : B → Bool) (f : A → B) (xs : List A) → position p (map f xs) ≡ position (λ x. p (f x)) xs
 position_of_map p f xs = rw (prefix_len_of_map (λ y. not (p y)) f xs, length-map xs f) refl
 
@@ -31,6 +32,7 @@ of_index locals (Some n) = rw (slice_get-map local_view locals n) (same n (slice
     same n None = refl
     same n (Some l) = refl
 
+-- to look a name up among the views of locals is to look it up among the locals of the code
 pub local_of_views : (locals : List code_local.Local) (name : List ℕ) →
     find_local (map local_view locals) name ≡
     option_and_then (λ n. option_map (λ l. record { number = n; kind = l.kind }) (slice_get locals n)) (position (λ l. l.is_known && bytes_eq l.name.now name) locals)

@@ -31,17 +31,20 @@ AreFirst [] founds = Unit {0}
 AreFirst (l ∷ locals) [] = ⊥
 AreFirst (l ∷ locals) (found ∷ founds) = (l.kind ≡ found) × AreFirst locals founds
 
+-- the kind of a local at an index is the one at that index of the list
 pub first_at : (locals : List Local) (founds : List Found) (i : ℕ) (l : Local) → AreFirst locals founds → slice_get locals i ≡ Some l → slice_get founds i ≡ Some l.kind
 first_at [] founds i l h k = cc
 first_at (x ∷ locals) [] i l h k = elim h [ ]
 first_at (x ∷ locals) (found ∷ founds) zero l h k = let same : x ≡ l = cc in ap Some (sym h.0 ∙ ap (λ (y : Local). y.kind) same)
 first_at (x ∷ locals) (found ∷ founds) (suc i) l h k = first_at locals founds i l h.1 k
 
+-- a front of locals whose kinds are the first of a list has its kinds there, too
 pub first_front : (xs ys : List Local) (founds : List Found) → AreFirst (xs ++ ys) founds → AreFirst xs founds
 first_front [] ys founds h = tt
 first_front (x ∷ xs) ys [] h = elim h [ ]
 first_front (x ∷ xs) ys (found ∷ founds) h = (h.0, first_front xs ys founds h.1)
 
+-- behind some locals, the kind of the next stands at their number
 pub first_last : (xs : List Local) (l : Local) (founds : List Found) → AreFirst (xs ++ l ∷ []) founds → slice_get founds (length xs) ≡ Some l.kind
 first_last [] l [] h = elim h [ ]
 first_last [] l (found ∷ founds) h = ap Some (sym h.0)
@@ -53,12 +56,14 @@ first_known [] founds h = tt
 first_known (l ∷ locals) [] h = elim h [ ]
 first_known (l ∷ locals) (found ∷ founds) h = (h.0, first_known locals founds h.1)
 
+-- the end of a block forgets names and no kinds: locals whose kinds are the first behind it are so in front of it
 pub first_open : (n : ℕ) (locals : List Local) (founds : List Found) → AreFirst (take n locals ++ map forgotten (drop n locals)) founds → AreFirst locals founds
 first_open zero locals founds h = first_known locals founds h
 first_open (suc n) [] founds h = tt
 first_open (suc n) (l ∷ locals) [] h = elim h [ ]
 first_open (suc n) (l ∷ locals) (found ∷ founds) h = (h.0, first_open n locals founds h.1)
 
+-- locals that are the first of declared kinds have declared kinds
 pub first_of_all : (p : trees.Program) (locals : List Local) (founds : List Found) → AreFirst locals founds → AllByRecursion (IsDeclaredFound p) founds
     → AllByRecursion (λ l. IsDeclaredFound p l.kind) locals
 first_of_all p [] founds h d = tt
@@ -86,6 +91,7 @@ named_in locals named (Some n) h = by_place (slice_get locals n) refl h
         let same : numbered ≡ named = cc in
         (l, subst (λ (m : Named). slice_get locals m.number ≡ Some l) same e, ap (λ (m : Named). m.kind) same)
 
+-- the number of a local that is found has a kind in the setting, and it is the one that is found
 pub local_named : (p : trees.Program) (locals : List Local) (founds : List Found) → AreFirst locals founds → AllByRecursion (IsDeclaredFound p) founds
     → (name : List ℕ) (named : Named) → find_local locals name ≡ Some named → HasNamed (map known_kind founds) named
 local_named p locals founds first d name named h =
@@ -107,9 +113,11 @@ field_in p fields named (Some n) h = by_place (slice_get fields n) refl h
         let same : numbered ≡ named = cc in
         (f, subst (λ (m : Named). slice_get fields m.number ≡ Some f) same e, ap (λ (m : Named). m.kind) same)
 
+-- each of these fields has a type whose class is declared
 abbrev pub AreDeclaredFields : trees.Program → List Field → Type 0
 AreDeclaredFields p fields = AllByRecursion (λ f. IsDeclaredFound p (kind_of p f.kind)) fields
 
+-- the number of a field that is found has a kind among those of the fields, and it is the one that is found
 pub field_named : (p : trees.Program) (fields : List Field) → AreDeclaredFields p fields
     → (name : List ℕ) (named : Named) → find_field p fields name ≡ Some named → HasNamed (field_kinds p fields) named
 field_named p fields d name named h =

@@ -40,10 +40,12 @@ use Rattle.st_types.specs.Tallies.{Tally, all_of, tally, tally_node, tally_all}
 use Rattle.st_types.proofs.CountLemmas.{few_arguments, few_found}
 use Rattle.st_types.proofs.OutcomeLemmas.{few_checks}
 
+-- where two lists of faults are empty together, the first is
 pub none_left : (xs ys : List TypeError) → xs ++ ys ≡ [] → xs ≡ []
 none_left [] ys h = refl
 none_left (x ∷ xs) ys h = cc
 
+-- where two lists of faults are empty together, the second is
 pub none_right : (xs ys : List TypeError) → xs ++ ys ≡ [] → ys ≡ []
 none_right [] ys h = h
 none_right (x ∷ xs) ys h = cc
@@ -73,11 +75,13 @@ class_known : (p : Program) (name : List ℕ) (site : Site) (o : Option ℕ) →
 class_known p name site None e h = cc
 class_known p name site (Some class) e h = (kinds.Ref class, refl, of_position p name class (position (λ (c : Class). bytes_eq c.name name) p.classes) refl e)
 
+-- a type name that is not refused stands for a kind, whose class is declared
 pub type_known : (p : Program) (t : TypeName) → asks_type p t ≡ [] → IsDeclaredFound p (kind_of p t)
 type_known p types.Int h = (kinds.Int, refl, tt)
 type_known p types.Bool h = (kinds.Bool, refl, tt)
 type_known p (types.Class name site) h = class_known p name site (class_number p name) refl h
 
+-- such a kind may stand in the shape
 pub kind_declared : (p : Program) (f : Found) → IsDeclaredFound p f → IsDeclaredKind (classes_of p) (known_kind f)
 kind_declared p f d = subst (λ x. IsDeclaredKind (classes_of p) (known_kind x)) (sym d.1) d.2
 
@@ -111,14 +115,17 @@ AreDeclared p locals = AllByRecursion (λ l. IsDeclaredFound p l.kind) locals
 abbrev pub IsFitting : Program → Launched → Type 0
 IsFitting p l = AllByRecursion (IsDeclaredKind (classes_of p)) l.kinds × (length l.kinds ≤ MOST_ARGS)
 
+-- each of some check statements does
 abbrev pub AreFitting : Program → List Launched → Type 0
 AreFitting p ls = AllByRecursion (IsFitting p) ls
 
+-- what holds of all holds of the one at an index
 pub all_at : {X : Type 0} (P : X → Type 0) (xs : List X) (i : ℕ) (x : X) → AllByRecursion P xs → slice_get xs i ≡ Some x → P x
 all_at P [] i x a h = cc
 all_at P (y ∷ xs) zero x a h = let same : y ≡ x = cc in subst P same a.0
 all_at P (y ∷ xs) (suc i) x a h = all_at P xs i x a.1 h
 
+-- what holds of all of two lists holds of both one after the other
 pub all_append : {X : Type 0} (P : X → Type 0) (xs ys : List X) → AllByRecursion P xs → AllByRecursion P ys → AllByRecursion P (xs ++ ys)
 all_append P [] ys a b = b
 all_append P (x ∷ xs) ys a b = (a.0, all_append P xs ys a.1 b)
@@ -127,12 +134,14 @@ all_if_any : {X : Type 0} (P : X → Type 0) (xs : List X) (i : ℕ) (o : Option
 all_if_any P xs i None a h = tt
 all_if_any P xs i (Some x) a h = (all_at P xs i x a h, tt)
 
+-- locals picked by their numbers from declared ones are declared
 pub found_declared : (p : Program) (locals : List Local) (numbers : List ℕ) → AreDeclared p locals → AreDeclared p (locals_at locals numbers)
 found_declared p locals [] a = tt
 found_declared p locals (n ∷ numbers) a =
     all_append (λ l. IsDeclaredFound p l.kind) (if_any (slice_get locals n)) (locals_at locals numbers)
     (all_if_any (λ (l : Local). IsDeclaredFound p l.kind) locals n (slice_get locals n) a refl) (found_declared p locals numbers a)
 
+-- the kinds of declared locals may stand in the shape
 pub kinds_declared : (p : Program) (locals : List Local) → AreDeclared p locals → AllByRecursion (IsDeclaredKind (classes_of p)) (map (λ l. known_kind l.kind) locals)
 kinds_declared p [] a = tt
 kinds_declared p (l ∷ locals) a = (kind_declared p l.kind a.0, kinds_declared p locals a.1)
@@ -209,6 +218,7 @@ layer_keeps p (Stmt-F.Check body site) r h few d =
           ((kinds_declared p found (found_declared p r.locals numbers d.locals), omega (arith, few, long, few_found r.locals numbers, few_arguments r.locals body)), tt);
     }
 
+-- the walk over any statement without faults keeps that the locals are declared and the check statements fit
 pub walk_keeps : (p : Program) (s : Stmt) → Keeps p s
 walk_keeps p = ind-Stmt (Keeps p) (λ x y keeps.
     subst (λ z. Keeps p (roll-Stmt z)) keeps
@@ -218,6 +228,7 @@ walk_keeps p = ind-Stmt (Keeps p) (λ x y keeps.
     → IsDeclared p (walk_node p (map-Stmt Stmt (Reached → Walked) (walk p) (bare p y)) r).reached) (sym (fold-roll-Stmt Tally tally_node (bare p y)))
     (layer_keeps p y r))))
 
+-- so does the walk over statements
 pub statements_keep : (p : Program) (ss : List Stmt) (r : Reached) → (walk_all (map (walk p) ss) r).faults ≡ [] → (tally_all ss).names ≤ MOST_ARGS → IsDeclared p r
     → IsDeclared p (walk_all (map (walk p) ss) r).reached
 statements_keep p [] r h few d = d
@@ -226,6 +237,7 @@ statements_keep p (s ∷ ss) r h few d =
     let more = (walk_all (map (walk p) ss) first.reached).faults in
     statements_keep p ss first.reached (none_right first.faults more h) (omega (arith, few)) (walk_keeps p s r (none_left first.faults more h) (omega (arith, few)) d)
 
+-- parameters without faults are declared locals
 pub params_declared : (p : Program) (params : List Param) → AllByRecursion (λ x. (e : List Param) × (param_faults p e x ≡ [])) params → AreDeclared p (param_locals p params)
 params_declared p [] h = tt
 params_declared p (q ∷ params) h =
@@ -237,6 +249,7 @@ abbrev KeepsFit : {X : Type 0} → Program → (List X → List Launched → X �
 KeepsFit {X} p f t = (earlier : List X) (checks : List Launched) (x : X) → (f earlier checks x).faults ≡ [] → (t x).names ≤ MOST_ARGS → AreFitting p checks
     → AreFitting p (f earlier checks x).checks
 
+-- the walk over a procedure does
 pub proc_keeps : (p : Program) → KeepsFit p (walk_proc p) proc_tally
 proc_keeps p earlier checks q h few fit =
     let body = (walk_body p q.params q.body checks).faults in
@@ -244,11 +257,13 @@ proc_keeps p earlier checks q h few fit =
     (statements_keep p q.body (record { locals = param_locals p q.params; checks = checks }) (none_right (proc_head_faults p earlier q) body h) few
     (record { locals = params_declared p q.params (each_none (param_faults p) [] q.params params); checks = fit })).checks
 
+-- and the walk over a thread
 pub thread_keeps : (p : Program) → KeepsFit p (walk_thread p) thread_tally
 thread_keeps p earlier checks t h few fit =
     let body = (walk_body p [] t.body checks).faults in
     (statements_keep p t.body (record { locals = []; checks = checks }) (none_right (asks_new _ t.site) body h) few (record { locals = tt; checks = fit })).checks
 
+-- and over all of them, one after another
 pub routines_keep : {X : Type 0} (p : Program) (f : List X → List Launched → X → WalkedRoutine) (t : X → Tally) (earlier : List X) (checks : List Launched) (xs : List X)
     → KeepsFit p f t → (walk_routines f earlier checks xs).faults ≡ [] → (all_of (map t xs)).names ≤ MOST_ARGS → AreFitting p checks
     → AreFitting p (walk_routines f earlier checks xs).checks

@@ -29,6 +29,7 @@ use Rattle.st_types.specs.Walks.{reached_of, stepped_at, stepped_block_at, launc
 use Rattle.st_types.proofs.GrowthLemmas.{nothing_closed}
 use Rattle.st_types.proofs.ScopeLemmas.{kinds_of_views}
 
+-- a step over an `if` is that of its layer, over the steps of its blocks
 pub step_of_if : (p : Program) (cond : Expr) (first : List Stmt) (other : Option (List Stmt)) (site : Site) (r : Reached) →
     step p (stmts.If cond first other site) r ≡ step_node p (Stmt-F.If cond (map (step p) first) (option_map (map (step p)) other) site) r
 step_of_if p cond first None site r =
@@ -38,6 +39,7 @@ step_of_if p cond first (Some other) site r =
     ap (λ s. step p s r) (sym (stmts.rolls-If cond first (Some other) site))
     ∙ ap (λ (f : Reached → Checked Stepped). f r) (fold-roll-Stmt (Reached → Checked Stepped) (step_node p) (Stmt-F.If cond first (Some other) site))
 
+-- a step over a `while` is that of its layer, over the steps of its body
 pub step_of_while : (p : Program) (cond : Expr) (body : List Stmt) (site : Site) (r : Reached) →
     step p (stmts.While cond body site) r ≡ step_node p (Stmt-F.While cond (map (step p) body) site) r
 step_of_while p cond body site r =

@@ -36,6 +36,7 @@ closed_length : (before : ℕ) (locals : List Local) → length (take before loc
 closed_length before locals =
     simp (length-append, length-map) (sym (length-append (take before locals) (drop before locals)) ∙ ap length (take-append-drop before locals))
 
+-- the end of a block takes no local and no check statement away
 pub block_grows : (walks : List (Reached → Walked)) (r : Reached) (t : Tally) → HasGrown r (walk_all walks r).reached t → HasGrown r (walk_block walks r).reached t
 block_grows walks r t h = record { locals = closed_length (length r.locals) (walk_all walks r).reached.locals ∙ h.locals; checks = h.checks }
 
@@ -89,6 +90,7 @@ tally_of_if cond first None site = ap tally (sym (stmts.rolls-If cond first None
 tally_of_if cond first (Some other) site =
     ap tally (sym (stmts.rolls-If cond first (Some other) site)) ∙ fold-roll-Stmt Tally tally_node (Stmt-F.If cond first (Some other) site)
 
+-- a `while` has what its body has
 pub tally_of_while : (cond : Expr) (body : List Stmt) (site : Site) → tally (stmts.While cond body site) ≡ tally_all body
 tally_of_while cond body site = ap tally (sym (stmts.rolls-While cond body site)) ∙ fold-roll-Stmt Tally tally_node (Stmt-F.While cond body site)
 

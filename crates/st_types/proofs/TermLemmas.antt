@@ -76,6 +76,7 @@ passed : (b : Bool) (fault : TypeError) → (if b then [] else (fault ∷ [])) �
 passed true fault h = refl
 passed false fault h = cc
 
+-- where a question has no fault, the kinds go together
 pub asked_goes : (asked found : Found) (at : Site) → asks asked at found ≡ [] → goes_with asked found ≡ true
 asked_goes asked found at h = passed (goes_with asked found) _ h
 
@@ -90,6 +91,7 @@ allowed_as P kind (Known other) h k = subst P (sym (same_is kind other h)) k
 goes_as : (t : Setting) (term : Term) (kind : Kind) (found : Found) → goes_with (Known kind) found ≡ true → HasFound t term found → HasKind t term kind
 goes_as t term kind found h k = allowed_as (HasKind t term) kind found h k
 
+-- a term that is asked for a kind without a fault has this kind
 pub asked_as_kind : (t : Setting) (term : Term) (kind : Kind) (found : Found) (at : Site) → asks (Known kind) at found ≡ [] → HasFound t term found → HasKind t term kind
 asked_as_kind t term kind found at h k = goes_as t term kind found (asked_goes (Known kind) found at h) k
 
@@ -144,6 +146,7 @@ pub field_has : (t : Setting) (object : Term) (class : ℕ) (at site : Site) (o 
 field_has t object class at site None k h names = cc
 field_has t object class at site (Some named) k h names = let has = names named refl in (has.0, has.1, (class, k, has.2))
 
+-- a field that an object is asked for without a fault has a kind, and the term of the field has the same
 pub field_fits : (s : ScopeView) (t : Setting) → IsSetting s t → (at : Site) (name : List ℕ) (object : Seen) (found : Found) → object.kind ≡ found
     → asks_field s.program (record object { kind = found }) name at ≡ [] → HasFound t object.term found
     → (kind : Kind) × (named_kind (field_of s.program found name) ≡ Known kind) × HasKind t (a_field object.term (named_number (field_of s.program found name)) at) kind
@@ -158,6 +161,7 @@ field_fits s t w at name object (Known (kinds.Ref class)) e h k =
 abbrev pub IsJudgedIn : Setting → Judged → Type 0
 IsJudgedIn t j = j.faults ≡ [] → HasFound t j.seen.term j.seen.kind
 
+-- arguments without faults that are asked for these kinds, one each, have them as terms
 pub args_fit : (t : Setting) (js : List Judged) (asked : List Kind) → AllByRecursion (IsJudgedIn t) js → length js ≡ length asked
     → in_order (map (λ j. j.faults) js) ≡ [] → asks_each (map Known asked) (map (λ j. j.seen) js) ≡ []
     → HaveKinds t (terms_of (map (λ arg. arg.term) (map (λ j. j.seen) js))) asked
@@ -181,6 +185,7 @@ counted given asked each at fault h = by_test (given == asked) refl
     by_test true e = (eqb-true given asked e, (let same : (if given == asked then each else (fault ∷ [])) ≡ each = rw e refl in sym same ∙ h))
     by_test false e = absurd (let same : (if given == asked then each else (fault ∷ [])) ≡ fault ∷ [] = rw e refl in cc)
 
+-- the arguments of a call that is not refused have the kinds of the parameters
 pub args_asked : (p : Program) (params : List Param) (asked : List Kind) (t : Setting) (js : List Judged) (site : Site) → param_kinds p params ≡ map Known asked
     → AllByRecursion (IsJudgedIn t) js → in_order (map (λ j. j.faults) js) ≡ [] → asks_args p params (map (λ j. j.seen) js) site ≡ []
     → HaveKinds t (terms_of (map (λ arg. arg.term) (map (λ j. j.seen) js))) asked

@@ -10,6 +10,7 @@ use Rattle.st_types.specs.Judged.{typed, typed_node, each_of, outcome}
 use Rattle.st_types.specs.Nodes.{Seen}
 use Rattle.st_types.specs.Scopes.{ScopeView}
 
+-- a call is typed by its arguments from left to right, and then by itself
 pub typed_call : (s : ScopeView) (name : List ℕ) (args : List Expr) (site : Site) →
     typed s (Call name args site) ≡ each_of (map (typed s) args) >>= (λ seen. outcome s (Expr-F.Call name seen site))
 typed_call s name args site =

@@ -93,6 +93,7 @@ stored_is s place value =
     (in_turn (judged s place).faults _ (judged s place).seen _ _ (in_turn (judged_value s value).faults _ (judged_value s value).given _ _ refl)
     ∙ grouped _ _ _ (simp append-nil))
 
+-- arguments, up to the first fault, come to the first of all their faults, or to what is seen of each
 pub args_are : (s : ScopeView) (es : List Expr) →
     each_of (map (typed s) es) ≡ verdict (in_order (map (λ j. j.faults) (map (judged s) es))) (map (λ j. j.seen) (map (judged s) es))
 args_are s [] = refl
@@ -110,9 +111,11 @@ called_is s name args site = rw (args_are s args) (in_turn (in_order (map (λ j.
 abbrev pub stepped_of : Walked → Stepped
 stepped_of w = record { command = w.command; reached = w.reached }
 
+-- what a walk over statements gives where it has no faults
 abbrev pub stepped_block_of : WalkedBlock → SteppedBlock
 stepped_block_of w = record { block = w.block; reached = w.reached }
 
+-- a step over the statement comes to the first of the faults of the walk, or to what the walk gives
 abbrev pub IsSo : Program → Stmt → Type 0
 IsSo p s = (r : Reached) → step p s r ≡ verdict (walk p s r).faults (stepped_of (walk p s r))
 
@@ -128,6 +131,7 @@ all_is p (s ∷ ss) r =
     (rw (all_is p ss (walk p s.0 r).reached)
     (mapped _ _ (λ (b : SteppedBlock). let c : SteppedBlock = record { block = command_then (walk p s.0 r).command b.block; reached = b.reached } in c))))
 
+-- where this holds of each of some statements it holds of their block
 pub block_is : (steps : List (Reached → Checked Stepped)) (walks : List (Reached → Walked)) (r : Reached) → AreSo steps walks
     → step_block steps r ≡ verdict (walk_block walks r).faults (stepped_block_of (walk_block walks r))
 block_is steps walks r h = rw (h r) (mapped _ _ (λ (b : SteppedBlock). let c : SteppedBlock = record { block = b.block; reached = closed (length r.locals) b.reached } in c))

@@ -7,6 +7,7 @@ use Rattle.st_ast.specs.declared.statements.Stmt.TheOpen.{Stmt-F}
 use Rattle.st_ast.specs.declared.statements.Stmt.TheVariants as stmts
 use Rattle.st_ast.specs.declared.statements.Stmt.TheFolds.{fold-Stmt, fold-roll-Stmt}
 
+-- the sum of numbers
 abbrev pub total : List ℕ → ℕ
 total [] = 0
 total (n ∷ ns) = n + total ns
@@ -24,12 +25,15 @@ weight_node (Stmt-F.While cond body site) = 1 + total body
 weight_node (Stmt-F.Call name args site) = 1
 weight_node (Stmt-F.Check body site) = 1
 
+-- how many statements a statement is: itself, and those in its blocks
 unfoldable pub weight : Stmt → ℕ
 weight s = fold-Stmt ℕ weight_node s
 
+-- how many some statements are together
 unfoldable pub weight_all : List Stmt → ℕ
 weight_all ss = total (map weight ss)
 
+-- one of some statements is no more than all of them
 pub weight_within : (ss : List Stmt) (i : ℕ) (d : Stmt) → i < length ss → weight (get_or ss i d) ≤ weight_all ss
 unfolding weight_all
 weight_within [] i d h = absurd (omega arith)
@@ -38,6 +42,7 @@ weight_within (s ∷ ss) (suc i) d h =
     let more = weight_within ss i d (omega arith) in
     omega (arith, more)
 
+-- the statements of an `if` are fewer than the `if`
 pub first_weighs_less : (cond : Expr) (first : List Stmt) (other : Option (List Stmt)) (site : Site) → weight_all first < weight (stmts.If cond first other site)
 unfolding weight weight_all
 first_weighs_less cond first None site =
@@ -47,12 +52,14 @@ first_weighs_less cond first (Some other) site =
     let e = ap (fold-Stmt ℕ weight_node) (sym (stmts.rolls-If cond first (Some other) site)) ∙ fold-roll-Stmt ℕ weight_node (Stmt-F.If cond first (Some other) site) in
     omega (arith, e)
 
+-- those behind its `else` are
 pub other_weighs_less : (cond : Expr) (first other : List Stmt) (site : Site) → weight_all other < weight (stmts.If cond first (Some other) site)
 unfolding weight weight_all
 other_weighs_less cond first other site =
     let e = ap (fold-Stmt ℕ weight_node) (sym (stmts.rolls-If cond first (Some other) site)) ∙ fold-roll-Stmt ℕ weight_node (Stmt-F.If cond first (Some other) site) in
     omega (arith, e)
 
+-- and those of a `while` are fewer than the `while`
 pub body_weighs_less : (cond : Expr) (body : List Stmt) (site : Site) → weight_all body < weight (stmts.While cond body site)
 unfolding weight weight_all
 body_weighs_less cond body site =

@@ -12,13 +12,14 @@ abbrev pub verdict : {A : Type 0} → List TypeError → A → Checked A
 verdict [] a = Ok a
 verdict (fault ∷ faults) a = Err fault
 
--- first one, then with its value the other
 infixl 10 ◌>>=◌
+-- first one, then with its value the other
 abbrev pub ◌>>=◌ : {A B : Type 0} → Checked A → (A → Checked B) → Checked B
 (Ok a) >>= f = f a
 (Err fault) >>= f = Err fault
 
 infixl 10 ◌>>◌
+-- first one, then the other, whatever the value of the first
 abbrev pub ◌>>◌ : {A B : Type 0} → Checked A → Checked B → Checked B
 p >> q = p >>= (λ _. q)
 

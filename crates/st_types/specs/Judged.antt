@@ -72,5 +72,6 @@ seen_operands (Expr-F.Cond test left right site) = test >>= (λ t. left >>= (λ 
 abbrev pub typed_node : ScopeView → Expr-F (Checked Seen) → Checked Seen
 typed_node s x = seen_operands x >>= outcome s
 
+-- a whole expression: its first fault, or what is seen of it
 abbrev pub typed : ScopeView → Expr → Checked Seen
 typed s = fold-Expr (Checked Seen) (typed_node s)

@@ -21,12 +21,15 @@ pub record IsSmallBody (params : List Param) (body : List Stmt) : Type 0 where
   pub few_params : length params ≤ MOST_PARAMS
   pub few_locals : length params + (tally_all body).locals ≤ MOST_LOCALS
 
+-- each predicate has few parameters
 abbrev pub AreSmallPreds : List Pred → Type 0
 AreSmallPreds preds = All (λ pred. length pred.params ≤ MOST_PARAMS) preds
 
+-- each procedure has a small body
 abbrev pub AreSmallProcs : List Proc → Type 0
 AreSmallProcs procs = All (λ procedure. IsSmallBody procedure.params procedure.body) procs
 
+-- each thread has a small body, without parameters
 abbrev pub AreSmallThreads : List Thread → Type 0
 AreSmallThreads threads = All (λ thread. IsSmallBody [] thread.body) threads
 
@@ -34,6 +37,7 @@ AreSmallThreads threads = All (λ thread. IsSmallBody [] thread.body) threads
 abbrev pub proc_tally : Proc → Tally
 proc_tally procedure = tally_all procedure.body
 
+-- the same of a thread
 abbrev pub thread_tally : Thread → Tally
 thread_tally thread = tally_all thread.body
 

@@ -32,6 +32,7 @@ pub record Seen : Type 0 where
 abbrev pub a_bool : Found
 a_bool = Known kinds.Bool
 
+-- the kind of numbers
 abbrev pub an_int : Found
 an_int = Known kinds.Int
 

@@ -25,6 +25,7 @@ pub record Parts : Type 0 where
   pub threads : List Routine
   pub checks : List Launched
 
+-- the same as the code keeps them
 abbrev pub bodies_of : Bodies → Parts
 bodies_of b = record { procs = map routine_of b.procs; threads = map routine_of b.threads; checks = map launched_of b.checks.items }
 
@@ -38,9 +39,11 @@ pub record Whole : Type 0 where
   pub program : Program
   pub shape : ShapeLists
 
+-- what a tree that keeps the rules comes to
 abbrev pub resolved_of : trees.Program → Whole
 resolved_of p = record { program = resolution p; shape = shape_of p }
 
+-- what the code gives, as such a whole
 abbrev pub resolved_at : Numbered → Whole
 resolved_at n = record { program = program_of n.resolved; shape = n.shape }
 

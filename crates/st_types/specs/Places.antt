@@ -8,6 +8,7 @@ use Rattle.st_ast.specs.declared.statements.Stmt.TheFolds.{fold-Stmt}
 use Rattle.st_ast.specs.declared.statements.Value.{Value}
 use Rattle.st_ast.specs.declared.statements.Value.TheVariants as values
 
+-- the outermost node is that of a field or of a shared variable
 abbrev pub is_place_layer : Expr-F Expr → Bool
 is_place_layer (Expr-F.Shared name site) = true
 is_place_layer (Expr-F.Field object name site) = true
@@ -23,14 +24,17 @@ has_target (values.Plain e) = true
 has_target (values.New class site) = true
 has_target (values.Cas place expect value site) = is_place place
 
+-- all of some are true
 abbrev pub are_all : List Bool → Bool
 are_all [] = true
 are_all (b ∷ bs) = b && are_all bs
 
+-- all behind `else` are, if there are any
 abbrev pub others_are : Option (List Bool) → Bool
 others_are None = true
 others_are (Some bs) = are_all bs
 
+-- each target in a statement is a place, once this is known of its blocks
 abbrev pub targets_node : Stmt-F Bool → Bool
 targets_node (Stmt-F.Var name name_site kind value site) = has_target value
 targets_node (Stmt-F.Assign name value site) = has_target value

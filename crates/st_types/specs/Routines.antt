@@ -24,6 +24,7 @@ pub record RoutedAll : Type 0 where
 abbrev pub routed : WalkedRoutine → Checked Routed
 routed w = verdict w.faults (record { routine = w.routine; checks = w.checks })
 
+-- the same of all of them: the routines and check statements, or the first fault
 abbrev pub routed_all : WalkedRoutines → Checked RoutedAll
 routed_all w = verdict w.faults (record { routines = w.routines; checks = w.checks })
 
@@ -31,5 +32,6 @@ routed_all w = verdict w.faults (record { routines = w.routines; checks = w.chec
 abbrev pub routed_at : Vec code_launched.Launched Global → Body → Routed
 routed_at checks body = record { routine = routine_of body; checks = map launched_of checks.items }
 
+-- the same of a list of the code's bodies
 abbrev pub routed_all_at : Vec code_launched.Launched Global → List Body → RoutedAll
 routed_all_at checks bodies = record { routines = map routine_of bodies; checks = map launched_of checks.items }

@@ -29,6 +29,7 @@ each_with_earlier f earlier (x ∷ xs) = f earlier x ++ each_with_earlier f (ear
 abbrev pub field_faults : trees.Program → List Field → Field → List TypeError
 field_faults p earlier field = asks_new (list_any (λ f. bytes_eq f.name field.name) earlier) field.site ++ asks_type p field.kind
 
+-- the fields of a class, or the shared variables, in their order
 abbrev pub fields_faults : trees.Program → List Field → List TypeError
 fields_faults p fields = each_with_earlier (field_faults p) [] fields
 
@@ -40,6 +41,7 @@ class_faults p earlier class = asks_new (list_any (λ c. bytes_eq c.name class.n
 abbrev pub param_faults : trees.Program → List Param → Param → List TypeError
 param_faults p earlier param = asks_new (list_any (λ q. bytes_eq q.name param.name) earlier) param.site ++ asks_type p param.kind
 
+-- all parameters of one declaration, in their order
 abbrev pub params_faults : trees.Program → List Param → List TypeError
 params_faults p params = each_with_earlier (param_faults p) [] params
 
@@ -62,6 +64,7 @@ pred_body_faults p pred =
     let body = judged (pred_scope p pred) pred.body in
     body.faults ++ asks (kind_of p pred.result) body.seen.site body.seen.kind
 
+-- a whole predicate: its head, and then its body
 abbrev pub pred_faults : trees.Program → List Pred → Pred → List TypeError
 pred_faults p earlier pred = pred_head_faults p earlier pred ++ pred_body_faults p pred
 
@@ -112,6 +115,7 @@ pub record WalkedRoutines : Type 0 where
   pub routines : List Routine
   pub checks : List Launched
 
+-- a walk over declarations in their order: each with those before it, and with the check statements so far
 abbrev pub walk_routines : {X : Type 0} → (List X → List Launched → X → WalkedRoutine) → List X → List Launched → List X → WalkedRoutines
 walk_routines f earlier checks [] = record { faults = []; routines = []; checks = checks }
 walk_routines f earlier checks (x ∷ xs) =
@@ -123,6 +127,7 @@ walk_routines f earlier checks (x ∷ xs) =
 abbrev pub walked_procs : trees.Program → WalkedRoutines
 walked_procs p = walk_routines (walk_proc p) [] [] p.procs
 
+-- the threads, which are walked behind the procedures
 abbrev pub walked_threads : trees.Program → WalkedRoutines
 walked_threads p = walk_routines (walk_thread p) [] (walked_procs p).checks p.threads
 

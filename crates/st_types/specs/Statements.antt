@@ -65,6 +65,7 @@ pub record Given : Type 0 where
   pub kind : Found
   pub source : Source
 
+-- a value, judged: what is seen of it, and its faults in the order of the walk
 pub record JudgedValue : Type 0 where
   pub given : Given
   pub faults : List TypeError
@@ -98,6 +99,7 @@ abbrev pub mentions_layer : Expr-F (List (List ℕ)) → List (List ℕ)
 mentions_layer (Expr-F.Local name site) = name ∷ []
 mentions_layer x = flat_map (λ names. names) (operands x)
 
+-- the same of a whole expression
 abbrev pub mentions : Expr → List (List ℕ)
 mentions = fold-Expr (List (List ℕ)) mentions_layer
 

@@ -41,13 +41,16 @@ pub record SteppedBlock : Type 0 where
   pub block : Block
   pub reached : Reached
 
+-- statements, each from where the one before it ended, up to the first fault
 abbrev pub step_all : List (Reached → Checked Stepped) → Reached → Checked SteppedBlock
 step_all [] r = Ok (record { block = no_commands; reached = r })
 step_all (first ∷ more) r = first r >>= (λ a. step_all more a.reached >>= (λ b. Ok (record { block = command_then a.command b.block; reached = b.reached })))
 
+-- a block: its statements, and at its end what they declared is known no more
 abbrev pub step_block : List (Reached → Checked Stepped) → Reached → Checked SteppedBlock
 step_block steps r = step_all steps r >>= (λ b. Ok (record { block = b.block; reached = closed (length r.locals) b.reached }))
 
+-- the steps behind `else`, if there are any
 abbrev pub other_steps : Option (List (Reached → Checked Stepped)) → List (Reached → Checked Stepped)
 other_steps None = []
 other_steps (Some steps) = steps
@@ -101,6 +104,7 @@ abbrev pub step_check : Program → Reached → Expr → Site → Checked Steppe
 step_check p r body site =
     typed_condition (check_scope p r.locals body) body >>= (λ t. Ok (record { command = a_launch (length r.checks); reached = launched r body t site }))
 
+-- one statement, once its blocks are steps: its first fault, or itself with numbers and how far the walk is behind it
 abbrev pub step_node : Program → Stmt-F (Reached → Checked Stepped) → Reached → Checked Stepped
 step_node p (Stmt-F.Var name name_site kind value site) r = step_var p r name kind value site
 step_node p (Stmt-F.Assign name value site) r = stays r (assigned (plain_scope p r.locals) name value site)

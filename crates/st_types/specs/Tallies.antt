@@ -51,6 +51,7 @@ tally_node (Stmt-F.While cond body site) = all_of body
 tally_node (Stmt-F.Call name args site) = empty
 tally_node (Stmt-F.Check body site) = record { locals = 0; checks = 1; names = distinct_names body }
 
+-- of a whole statement
 abbrev pub tally : Stmt → Tally
 tally = fold-Stmt Tally tally_node
 
