@@ -95,6 +95,7 @@ told text tokens (Err (error.TooMany what at)) h = subst (Meant text tokens) (sy
 told text tokens (Err (error.TooDeep at)) h = subst (Meant text tokens) (sym h) (answer_meant text tokens)
 told text tokens (Err (error.TooLong at)) h = subst (Meant text tokens) (sym h) (answer_meant text tokens)
 
+-- what the answer means, for the clause `tree`: an answer with a tree has the program of the text
 pub told_tree : (text : List ℕ) (tokens : List Token) (r : Result Program ParseError) → Meant text tokens r → IfOk r (λ p. IsProgramOf text tokens p)
 told_tree text tokens (Ok p) m = m
 told_tree text tokens (Err why) m = tt
@@ -110,9 +111,11 @@ refused text tokens (error.TooMany what at) m other p h =
 refused text tokens (error.TooDeep at) m other p h = let clash = sym m.excess_here ∙ h.few_tokens m.before m.after m.here m.split in absurd cc
 refused text tokens (error.TooLong at) m other p h = let clash = sym m.excess_here ∙ h.few_tokens m.before m.after m.here m.split in absurd cc
 
+-- what the answer means, for the clause `no_tree`: after an error other than want of memory no tree is the program of the text
 pub told_no_tree : (text : List ℕ) (tokens : List Token) (r : Result Program ParseError) → Meant text tokens r
     → (why : ParseError) → IsErrOf r why → why ≢ error.Memory → (p : Program) → IsProgramOf text tokens p → ⊥
 told_no_tree text tokens r m why is other p h = refused text tokens why (subst (Meant text tokens) is m) other p h
 
+-- what the answer means, for the clauses of the faults: an answer with this error means what the error says
 pub told_error : (text : List ℕ) (tokens : List Token) (r : Result Program ParseError) → Meant text tokens r → (why : ParseError) → IsErrOf r why → Meant text tokens (Err why)
 told_error text tokens r m why is = subst (Meant text tokens) is m

@@ -3,6 +3,7 @@ use Rattle.std.proofs.Common.{ℕ}
 use Rattle.st_syntax.specs.declared.operators.Chain.{Chain}
 use Rattle.st_syntax.specs.declared.operators.Chain.TheVariants as chain
 
+-- a level that binds tighter has a lower number, with room between two for the readers that stand between them
 abbrev pub rank : Chain → ℕ
 rank chain.Product = 8
 rank chain.Sum = 11

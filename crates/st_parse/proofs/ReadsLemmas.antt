@@ -11,10 +11,12 @@ use Rattle.st_reading.specs.Reading.{Outcome, Reader, and_then, turns, many, one
 use Rattle.st_parse.specs.Reads.{StopsAt, Reads}
 use Rattle.st_parse.proofs.Turns.{no_turn, turn_refused}
 
+-- a reader that answers with a value has read what the reading function reads
 pub reads_ok : {X A : Type 0} (view : X → A) (o : Outcome A) (r : Result X Stop) (left : List Terminal) (x : X)
     → Reads view o r left → r ≡ Ok x → o ≡ Ok (view x, left)
 reads_ok view o r left x h e = subst (λ r. Reads view o r left) e h
 
+-- a reader that answers with an error has stopped where the reading function stops, unless memory ran out
 pub reads_err : {X A : Type 0} (view : X → A) (o : Outcome A) (r : Result X Stop) (left : List Terminal) (why : Stop)
     → Reads view o r left → r ≡ Err why → StopsAt o why left
 reads_err view o r left why h e = subst (λ r. Reads view o r left) e h
@@ -42,6 +44,7 @@ pub more_made : {A : Type 0} (item : Reader A) (items longer : List A) (x : A) (
     → item ts ≡ Ok (x, us) → longer ≡ items ++ x ∷ [] → one_more item items ts ≡ Ok (longer, us)
 more_made item items longer x ts us made is = ap (λ o. and_then o (λ x us. Ok (items ++ x ∷ [], us))) made ∙ ap (λ l. Ok (l, us)) (sym is)
 
+-- a list gets no further item where the item stops, and stops there too
 pub more_stops : {A : Type 0} (item : Reader A) (items : List A) (ts us : List Terminal) (why : Stop)
     → StopsAt (item ts) why us → StopsAt (one_more item items ts) why us
 more_stops item items ts us stop.Memory h = tt

@@ -6,14 +6,17 @@ use Rattle.st_syntax.specs.declared.sorts.Sort.TheVariants as sort
 use Rattle.st_syntax.specs.Terminals.{Terminal, next_sort}
 use Rattle.st_reading.specs.Reading.{Outcome, Reader, and_then, if_shorter, turns_from, turns}
 
+-- two choices by one test are the same where their first branches are, given that the test holds
 pub chosen_alike : {B : Type 0} (b : Bool) (x y z : B) → (b ≡ true → x ≡ y) → (if b then x else z) ≡ (if b then y else z)
 chosen_alike true x y z e = e refl
 chosen_alike false x y z e = refl
 
+-- two readers that go on from one outcome give the same where they give the same from everything that was read
 pub goes_on_alike : {A B : Type 0} (o : Outcome A) (f g : A → Reader B) → ((x : A) (us : List Terminal) → f x us ≡ g x us) → and_then o f ≡ and_then o g
 goes_on_alike (Ok p) f g e = e p.0 p.1
 goes_on_alike (Err rest) f g e = refl
 
+-- two readers give the same where fewer terminals are left if they do so given that fewer are left
 pub shorter_alike : {A : Type 0} (ts us : List Terminal) (r s : Reader A) → (length us < length ts → r us ≡ s us) → if_shorter ts r us ≡ if_shorter ts s us
 shorter_alike ts us r s e = chosen_alike (nat_lt (length us) (length ts)) (r us) (s us) (Err us) (λ h. e (search (rules, h)))
 
@@ -29,6 +32,7 @@ any_number asks turn (suc m) (suc n) x (t ∷ ts) p q =
     shorter_alike (t ∷ ts) us (turns_from asks turn m y) (turns_from asks turn n y) (λ less.
     any_number asks turn m n y us (omega (arith, p, less)) (omega (arith, q, less)))))
 
+-- a loop over at least one terminal asks it for a turn, and goes on after the turn where fewer terminals are left
 pub one_turn : {A : Type 0} (asks : Sort → Bool) (turn : A → Reader A) (x : A) (t : Terminal) (ts : List Terminal)
     → turns asks turn x (t ∷ ts) ≡ (if asks t.sort then and_then (turn x (t ∷ ts)) (λ y. if_shorter (t ∷ ts) (turns asks turn y)) else Ok (x, t ∷ ts))
 unfolding turns turns_from

@@ -50,6 +50,7 @@ abbrev pub place_of : List ℕ → List Terminal → Site
 place_of text [] = place_at text (length text)
 place_of text (t ∷ ts) = t.site
 
+-- the answer about a program by what is the first in it above its limit, if anything is
 abbrev pub counted_by : Program → Option (What × Site) → Result Program ParseError
 counted_by p None = Ok p
 counted_by p (Some excess) = Err (error.TooMany excess.0 excess.1)
@@ -58,6 +59,7 @@ counted_by p (Some excess) = Err (error.TooMany excess.0 excess.1)
 unfoldable pub counted : Program → Result Program ParseError
 counted p = counted_by p (first_excess (items_of p))
 
+-- the answer by what was read: the program, or the place of the first terminal that is left
 abbrev pub read_by : List ℕ → Outcome Program → Result Program ParseError
 read_by text (Ok p) = Ok p.0
 read_by text (Err left) = Err (error.Unexpected (place_of text left))
@@ -66,10 +68,12 @@ read_by text (Err left) = Err (error.Unexpected (place_of text left))
 unfoldable pub read : List ℕ → List Terminal → Result Program ParseError
 read text ts = read_by text (program ts)
 
+-- a program that was read is then counted; an error stays
 abbrev pub then_counted : Result Program ParseError → Result Program ParseError
 then_counted (Ok p) = counted p
 then_counted (Err why) = Err why
 
+-- the answer by what is the first token above a limit, if any is: without one the terminals are read and counted
 abbrev pub limited_by : List ℕ → List Terminal → Option (Over × Site) → Result Program ParseError
 limited_by text ts (Some over) = Err (error_of over.0 over.1)
 limited_by text ts None = then_counted (read text ts)

@@ -5,6 +5,7 @@ use Rattle.st_parse.specs.declared.stops.Stop.TheVariants as stop
 use Rattle.st_reading.specs.Reading.{Outcome}
 use Rattle.st_syntax.specs.Terminals.{Terminal}
 
+-- the reader stopped for this reason with these terminals left: at a fault the outcome is the fault there, and of want of memory nothing is said
 abbrev pub StopsAt : {A : Type 0} → Outcome A → Stop → List Terminal → Type 0
 StopsAt outcome stop.Memory left = Unit {0}
 StopsAt outcome stop.Fault left = outcome ≡ Err left

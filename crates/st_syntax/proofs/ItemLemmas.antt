@@ -20,6 +20,7 @@ ok_as (Err e) x y z h same = tt
 pub added_twice : {A : Type 0} (a b c x y : List A) → b ≡ a ++ x → c ≡ b ++ y → c ≡ a ++ (x ++ y)
 added_twice a b c x y h k = k ∙ ap (λ l. l ++ y) h ∙ append_assoc a x y
 
+-- whether one of these mentions has the name is asked of their names, wherever the bytes of these lie
 pub is_named_of_views : (ms : List Mention) (name : List ℕ) → spec.is_named (mention_views ms) name ≡ list_any (λ m. bytes_eq m.name.now name) ms
 is_named_of_views [] name = refl
 is_named_of_views (m ∷ ms) name = ap (λ b. bytes_eq m.name.now name || b) (is_named_of_views ms name)

@@ -6,10 +6,12 @@ use Rattle.st_syntax.specs.declared.sorts.Sort.TheVariants as sort
 use Rattle.st_syntax.specs.contracts.sorts.Sort.{the_type}
 use Rattle.st_syntax.specs.Sorts.{same_sort}
 
+-- two sorts that compare as the same are one sort
 pub sort_means : (a b : Sort) → same_sort a b ≡ true → a ≡ b
 unfolding same_sort
 sort_means a b e = same_true the_type (search rules) _ _ e
 
+-- each sort compares as the same with itself
 pub sort_self : (a : Sort) → same_sort a a ≡ true
 unfolding same_sort
 sort_self sort.Name = refl

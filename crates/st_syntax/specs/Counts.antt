@@ -42,9 +42,11 @@ pub record Mention : Type 0 where
   pub name : List ℕ
   pub site : Site
 
+-- lists one after another, as one list
 abbrev pub all_of : {A : Type 0} → List (List A) → List A
 all_of = flat_map (λ xs. xs)
 
+-- the mentions of an expression from those of its parts: a local is one itself, every other node has those of its parts from left to right
 abbrev pub mentions_step : Expr-F (List Mention) → List Mention
 mentions_step (Expr-F.Number value site) = []
 mentions_step (Expr-F.Truth value site) = []
@@ -63,6 +65,7 @@ mentions_step (Expr-F.Cond test left right site) = test ++ left ++ right
 unfoldable pub mentions : Expr → List Mention
 mentions e = fold-Expr (List Mention) mentions_step e
 
+-- one of the mentions has this name
 abbrev pub is_named : List Mention → List ℕ → Bool
 is_named mentions name = list_any (λ m. bytes_eq m.name name) mentions
 
@@ -79,10 +82,12 @@ argument_items before (m ∷ ms) = argument_item before m ++ argument_items (bef
 unfoldable pub check_items : Expr → Site → List Item
 check_items body site = item.One what.Checks site ∷ item.Anew what.CheckArgs ∷ argument_items [] (mentions body)
 
+-- the items of an `else` block, or none where there is no `else`
 abbrev pub other_items : Option (List (List Item)) → List Item
 other_items None = []
 other_items (Some lists) = all_of lists
 
+-- the items of a statement from those of its blocks: a `var` is a local, a `check` counts with its arguments, and blocks hand theirs on
 abbrev pub stmt_step : Stmt-F (List Item) → List Item
 stmt_step (Stmt-F.Var name name_site kind value site) = item.One what.Locals name_site ∷ []
 stmt_step (Stmt-F.Assign name value site) = []
@@ -96,9 +101,11 @@ stmt_step (Stmt-F.Check body site) = check_items body site
 unfoldable pub stmt_items : Stmt → List Item
 stmt_items s = fold-Stmt (List Item) stmt_step s
 
+-- a field, and likewise a shared variable, is one item
 abbrev pub field_items : Field → List Item
 field_items field = item.One what.Fields field.site ∷ []
 
+-- a class, after which fields count anew, with its fields
 abbrev pub class_items : Class → List Item
 class_items class = item.One what.Classes class.site ∷ item.Anew what.Fields ∷ flat_map field_items class.fields
 
@@ -110,12 +117,15 @@ param_items param = item.One what.Params param.site ∷ item.One what.Locals par
 abbrev pub head_items : List Param → List Item
 head_items params = item.Anew what.Params ∷ item.Anew what.Locals ∷ flat_map param_items params
 
+-- a predicate with its parameters; its body has nothing that counts
 abbrev pub pred_items : Pred → List Item
 pred_items pred = item.One what.Preds pred.site ∷ head_items pred.params
 
+-- a procedure with its parameters and the statements of its body
 abbrev pub proc_items : Proc → List Item
 proc_items proc = (item.One what.Procs proc.site ∷ head_items proc.params) ++ flat_map stmt_items proc.body
 
+-- a thread, which has no parameters, with the statements of its body
 abbrev pub thread_items : Thread → List Item
 thread_items thread = item.One what.Threads thread.site ∷ item.Anew what.Locals ∷ flat_map stmt_items thread.body
 
@@ -146,6 +156,7 @@ counted counts (item.One what site) = slice_set counts (slot what) (slice_index 
 abbrev pub at_start : List ℕ
 at_start = replicate 9 0
 
+-- one item more is in excess where as many as there may be stand before, and it is told with its place
 abbrev pub excess : List ℕ → Item → Option (What × Site)
 excess counts (item.Anew what) = None
 excess counts (item.One what site) = if nat_lt (slice_index counts (slot what)) (most what) then None else Some (what, site)
@@ -158,5 +169,6 @@ IsWithinCounts p = firsts.AreWithin excess counted at_start (items_of p)
 abbrev pub IsFirstExcess : Program → What → Site → Type 0
 IsFirstExcess p what at = firsts.IsFirst excess counted at_start (items_of p) (what, at)
 
+-- the first of these items that is above its limit, by going over them once
 unfoldable pub first_excess : List Item → Option (What × Site)
 first_excess items = first_from excess counted at_start items

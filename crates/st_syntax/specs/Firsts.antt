@@ -16,6 +16,7 @@ module _ {S T O : Type 0} (excess : S → T → Option O) (next : S → T → S)
     pub within : AreWithin before
     pub excess_here : excess (fold next start before) here ≡ Some over
 
+-- what is in excess here comes before what is in excess later
 abbrev pub or_else : {O : Type 0} → Option O → Option O → Option O
 or_else None rest = rest
 or_else (Some over) rest = Some over

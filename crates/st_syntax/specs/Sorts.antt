@@ -22,6 +22,7 @@ look_up (word ∷ words) bytes = if bytes_eq word.0 bytes then word.1 else look_
 abbrev pub keywords : List (List ℕ × Sort)
 keywords = map (λ word. (word.0.now, word.1)) KEYWORDS
 
+-- the marks of one or two bytes, each with its sort
 abbrev pub marks : List (List ℕ × Sort)
 marks = map (λ word. (word.0.now, word.1)) MARKS
 

@@ -12,6 +12,7 @@ use Rattle.st_syntax.specs.Firsts as firsts
 use Rattle.st_syntax.specs.Firsts.{first_from}
 use Rattle.st_syntax.specs.Terminals.{Terminal}
 
+-- before the first token no brace is open and no token is counted
 abbrev pub at_start : TokenCounts
 at_start = record { braces = 0; since = 0 }
 
@@ -22,9 +23,11 @@ counted_by counts sort.CloseBrace = record { braces = counts.braces - 1; since =
 counted_by counts sort.Semicolon = record { braces = counts.braces; since = 0 }
 counted_by counts _ = record { braces = counts.braces; since = counts.since + 1 }
 
+-- the counts after one more terminal, of which only the sort counts
 abbrev pub counted : TokenCounts → Terminal → TokenCounts
 counted counts t = counted_by counts t.sort
 
+-- of a token of this sort at this place: a `{` is too deep where the most braces are open; each other but `}` and `;` is too long after the most tokens
 abbrev pub excess_by : TokenCounts → Site → Sort → Option (Over × Site)
 excess_by counts site sort.OpenBrace = if nat_lt counts.braces MOST_OPEN_BRACES then None else Some (over.Deep, site)
 excess_by counts site sort.CloseBrace = None
@@ -43,5 +46,6 @@ IsWithinTokenLimits ts = firsts.AreWithin excess counted at_start ts
 abbrev pub IsFirstOver : List Terminal → Over → Site → Type 0
 IsFirstOver ts why at = firsts.IsFirst excess counted at_start ts (why, at)
 
+-- the first of these terminals that is above a limit, by going over them once
 unfoldable pub first_over : List Terminal → Option (Over × Site)
 first_over ts = first_from excess counted at_start ts
