@@ -22,6 +22,7 @@ among_range a (suc n) k h = by (or_cases (a == k) (is_among (range_with_len (a +
     by (inl same) rest = let e : a ≡ k = same_numbers a k same in (omega (arith, e), omega (arith, e))
     by (inr there) rest = let r = rest there in (omega (arith, r.0), omega (arith, r.1))
 
+-- a number between the ends of a range is one of its numbers
 pub range_has : (a n k : ℕ) → a ≤ k → k < a + n → is_among (range_with_len a n) k ≡ true
 range_has a zero k le lt = absurd (omega (arith, le, lt))
 range_has a (suc n) k le lt = by (λ more. range_has (a + 1) n k more (omega (arith, lt))) (a == k) refl
@@ -81,6 +82,7 @@ images_are_none [] [] e = (refl, refl)
 images_are_none [] (n ∷ ns) e = absurd (cc)
 images_are_none (m ∷ ms) ns e = absurd (cc)
 
+-- where nobody is chosen, no mutator can take a turn and every active check has finished
 pub none_is_ready :
     (shape : ShapeLists) (p : Program) (sizes : Sizes) (s : State)
     → next_agent shape p sizes s ≡ None

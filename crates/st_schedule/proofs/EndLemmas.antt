@@ -82,6 +82,7 @@ less_events shape p sizes s m request led asked =
     let one : length own ≡ length (own_events m s.journal) + 1 = ap length (own_after_turn shape p sizes s m request asked) ∙ length-append (own_events m s.journal) (e ∷ []) in
     omega (arith, charge, one)
 
+-- the turn of a mutator that can take one leaves fewer events to make
 pub events_fall :
     (shape : ShapeLists) (p : Program) (sizes : Sizes) (s : State) (m : ℕ)
     → AreLed p sizes s
@@ -123,6 +124,7 @@ less_reads cells lost (has_read k) h = by (slice_get cells k) refl h
     by None e f = absurd (cc)
     by (Some cell) e f = at_cell cell (slice_get_within cells k cell e) (lost cell.obj)
 
+-- the turn of a check that has not finished leaves fewer reads to do
 pub reads_fall :
     (shape : ShapeLists) (p : Program) (sizes : Sizes) (s : State) (n : ℕ)
     → IsReady shape p sizes s (check n)
@@ -191,6 +193,7 @@ comes_within shape p sizes (suc most) s led few =
 abbrev end_from : ShapeLists → Program → Sizes → ℕ → State
 end_from shape p sizes seed = state_within shape p sizes (all_events_left sizes (first_state seed) + 1) (first_state seed)
 
+-- each turn lowers the events or the reads that are left, so from every seed the turns come to an end
 pub run_comes_to_end : (shape : ShapeLists) (p : Program) (sizes : Sizes) (seed : ℕ) → ComesTo shape p sizes (first_state seed) (end_from shape p sizes seed)
 run_comes_to_end shape p sizes seed =
     comes_within shape p sizes (all_events_left sizes (first_state seed) + 1) (first_state seed) (λ thread. events_lead_by_replies.first p sizes thread) (omega arith)
@@ -201,6 +204,7 @@ unfolding scheduled_run
 run_is_left shape p sizes seed end comes =
     ap (ran_of shape p sizes) (one_end shape p sizes (first_state seed) (end_from shape p sizes seed) end (run_comes_to_end shape p sizes seed) comes)
 
+-- there is an end; who is next is fixed by the state, so there is no other; and the run is read off it
 pub runs_come_to_one_end : ComeToOneEnd
 runs_come_to_one_end = record {
   some = λ shape p sizes seed. (end_from shape p sizes seed, run_comes_to_end shape p sizes seed);

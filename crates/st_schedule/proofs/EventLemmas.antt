@@ -35,6 +35,7 @@ some_is_found : (o : Option ℕ) → IsSome o → o ≡ Some (unwrap_or o 0)
 some_is_found None h = absurd (cc)
 some_is_found (Some x) h = refl
 
+-- a request that fits the heap, with room for it, makes a legal event
 pub event_is_legal :
     (shape : ShapeLists) (sizes : Sizes) (w : World) (m : ℕ) (request : Request)
     → m < sizes.mutators

@@ -17,13 +17,16 @@ use Rattle.st_schedule.specs.SafeDeeds.{IsFittingRequest, IsLaterHeap, IsSafeDee
 
 -- ---- heaps
 
+-- a heap has all that it has
 pub heap_extends_itself : (heap : Heap) → Extends heap heap
 heap_extends_itself heap = record { object = λ obj x e. (x, e, refl, refl) }
 
+-- what a heap has of an earlier one it has of one before that
 pub extends_in_turn : (first second third : Heap) → Extends first second → Extends second third → Extends first third
 extends_in_turn first second third a b =
     record { object = λ obj x e. let y = a.object obj x e in let z = b.object obj y.0 y.1 in (z.0, z.1, z.2 ∙ y.2, z.3 ∙ y.3) }
 
+-- a heap later than a later one is later
 pub later_in_turn :
     (shape : ShapeLists) (first second third : Heap)
     → IsLaterHeap shape first second
@@ -31,6 +34,7 @@ pub later_in_turn :
     → IsLaterHeap shape first third
 later_in_turn shape first second third a b = record { extends = extends_in_turn first second third a.extends b.extends; typed = b.typed }
 
+-- a typed heap counts as later than itself
 pub heap_is_later : (shape : ShapeLists) (heap : Heap) → IsTypedHeap shape heap → IsLaterHeap shape heap heap
 heap_is_later shape heap typed = record { extends = heap_extends_itself heap; typed = typed }
 
@@ -122,6 +126,7 @@ later_args_fit earlier later x (Some kinds) args h =
 
 -- ---- requests and deeds
 
+-- a request that fits a heap fits each later one, whatever others have done meanwhile
 pub later_request_fits :
     (shape : ShapeLists) (earlier later : Heap)
     → Extends earlier later

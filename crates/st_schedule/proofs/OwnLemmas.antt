@@ -44,6 +44,7 @@ retires_then_own thread m es ns e own =
     filter-append (is_own thread) (retires m ns) (e ∷ []) ∙ ap (λ (gs : List Event). gs ++ own_events thread (e ∷ [])) (retires_are_not_own thread m ns) ∙ last in
     filter-append (is_own thread) es (retires m ns ++ e ∷ []) ∙ ap (λ (gs : List Event). own_events thread es ++ gs) behind
 
+-- checks are retired, and then there is an event of another thread: a thread's own events stay
 pub retires_then_other :
     (thread m : ℕ) (es : List Event) (ns : List ℕ) (e : Event)
     → is_own thread e ≡ false
@@ -65,6 +66,7 @@ own_after_turn shape p sizes s m request asked =
     ∙ retires_then_own m m s.journal (retired_for request (finished_checks shape p sizes s)) e
     (own_by_request sizes (world_after shape sizes s.journal) m request m ∙ same_number m)
 
+-- a mutator's turn leaves the own events of every other thread as they were
 pub others_after_turn :
     (shape : ShapeLists) (p : Program) (sizes : Sizes) (s : State) (m thread : ℕ)
     → thread ≢ m
@@ -92,6 +94,7 @@ event_answers sizes w m (launch site args) turn h = h
 abbrev pub AreLed : Program → Sizes → State → Type 0
 AreLed p sizes s = (thread : ℕ) → LeadTo p sizes thread (own_events thread s.journal) (request_of p sizes s thread)
 
+-- whoever takes a turn, each thread's events lead to what it asks for then
 pub turn_leads :
     (shape : ShapeLists) (p : Program) (sizes : Sizes) (s : State) (a : Agent)
     → AreLed p sizes s

@@ -31,6 +31,7 @@ world_from_retires : (shape : ShapeLists) (sizes : Sizes) (w : World) (m : ℕ) 
 world_from_retires shape sizes w m [] = refl
 world_from_retires shape sizes w m (n ∷ ns) = world_from_retires shape sizes (next shape sizes w (Retire m n)) m ns
 
+-- after the Retires of some checks these are active no more and their rows are released; nothing else has changed
 pub world_after_retires :
     (shape : ShapeLists) (sizes : Sizes) (es : List Event) (m : ℕ) (ns : List ℕ)
     → world_after shape sizes (es ++ retires m ns) ≡ with_retired (world_after shape sizes es) ns
@@ -51,6 +52,7 @@ retires_are_legal_from shape sizes w m (n ∷ ns) few rising active = (
       without_is_among n w.active k (active k (or_second (n == k) (is_among ns k) h)) (λ same. let below : n < k = rising.0 k h in absurd (omega (arith, same, below)))),
 )
 
+-- active checks, each once and in order of number, may be retired one after another, by a mutator or the main thread
 pub retires_are_legal :
     (shape : ShapeLists) (sizes : Sizes) (es : List Event) (m : ℕ) (ns : List ℕ)
     → IsLegal shape sizes es

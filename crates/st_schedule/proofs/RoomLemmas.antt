@@ -181,6 +181,7 @@ pub record HasRoom (shape : ShapeLists) (sizes : Sizes) (es : List Event) : Type
   pub events : length es + length (world_after shape sizes es).active ≤ sizes.mutators * sizes.events
   pub checks : 2 * (world_after shape sizes es).epoch ≤ sizes.mutators * sizes.events
 
+-- each event was paid for by its thread, so a sound state has room for what it has and for the Retires to come
 pub sound_state_has_room : (shape : ShapeLists) (p : Program) (sizes : Sizes) (s : State) → IsSoundState shape p sizes s → HasRoom shape sizes s.journal
 sound_state_has_room shape p sizes s h =
     let none : ArePaid shape sizes [] = record { events = omega arith; launches = omega arith } in

@@ -234,6 +234,7 @@ end_is_right shape p formed sizes s limits threads h = record {
     right : (n : ℕ) (verdict : Verdict) → slice_get ran.verdicts n ≡ Some verdict → IsRightVerdict shape p sizes ran.journal (n + 1) verdict
     right n verdict e = right_verdicts shape p formed sizes s h.sound n verdict e
 
+-- the state in which a scheduled run ends is sound, so what it leaves there is right
 pub scheduled_run_is_right :
     (shape : ShapeLists) (p : Program) (sizes : Sizes) (seed : ℕ)
     → IsWellFormed shape p

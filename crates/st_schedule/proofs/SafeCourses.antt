@@ -42,6 +42,7 @@ IsSafeCourse shape good heap (uses_unit next) = IsSafeCourse shape good heap (ne
 abbrev pub OfKind : Kind → Heap → ℕ → Type 0
 OfKind kind heap word = IsOfKind heap kind word
 
+-- words for these kinds, one by one, and no more
 pub record AllOfKinds (kinds : List Kind) (heap : Heap) (words : List ℕ) : Type 0 where
   pub fit : AreOfKinds heap kinds words
   pub as_many : length words ≡ length kinds
@@ -122,6 +123,7 @@ pub fits_of_kind : (shape : ShapeLists) (heap : Heap) (obj field : ℕ) (kind : 
     → fits_cell shape heap obj field word ≡ true
 fits_of_kind shape heap obj field kind cell word h = ap (λ (o : Option Kind). has_kind_if_any heap o word) cell.known ∙ h
 
+-- a word that may stand in a cell has the cell's kind
 pub kind_of_fits : (shape : ShapeLists) (heap : Heap) (obj field : ℕ) (kind : Kind) → kind_of_field shape (heap obj) field ≡ Some kind → (word : ℕ)
     → fits_cell shape heap obj field word ≡ true
     → IsOfKind heap kind word
@@ -183,6 +185,7 @@ pub record AreGoodLocals (shape : ShapeLists) (kinds : List Kind) (heap : Heap) 
   pub typed : IsTypedHeap shape heap
   pub fit : AreOfKinds heap kinds locals
 
+-- locals keep their kinds while the heap goes on
 pub later_good_locals :
     (shape : ShapeLists) (kinds : List Kind) (earlier later : Heap) (locals : List ℕ)
     → IsLaterHeap shape earlier later
@@ -190,6 +193,7 @@ pub later_good_locals :
     → AreGoodLocals shape kinds later locals
 later_good_locals shape kinds earlier later locals l ok = record { typed = l.typed; fit = later_have_kinds earlier later l.extends kinds locals ok.fit }
 
+-- an expression of a kind reads cells that exist, and comes to a word of that kind on the heap as it is then
 pub term_safe :
     (shape : ShapeLists) (kinds : List Kind) (locals : List ℕ) (t : Term) (kind : Kind)
     → HasKind (plain_setting shape kinds) t kind
@@ -243,6 +247,7 @@ term_safe shape kinds locals (a_cond test left right) kind h heap ok =
     (term_safe shape kinds locals left kind h.1 later still) (term_safe shape kinds locals right kind h.2 later still))
 term_safe shape kinds locals (a_call pred args) kind h heap ok = let none : None ≡ Some h.0 = h.1 in cc
 
+-- the same for arguments, from left to right: words of the wanted kinds, as many as these
 pub terms_safe :
     (shape : ShapeLists) (kinds : List Kind) (locals : List ℕ) (ts : Terms) (wanted : List Kind)
     → HaveKinds (plain_setting shape kinds) ts wanted

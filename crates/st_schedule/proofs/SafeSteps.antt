@@ -43,15 +43,18 @@ IsSafeStep {A} shape kinds good step =
     → IsSafeBehind shape good heap rest
     → IsSafeDeed shape heap (step locals means rest)
 
+-- a choice between two safe deeds is safe
 pub branches_safe : (shape : ShapeLists) (heap : Heap) (t : Bool) (a b : Deed) → IsSafeDeed shape heap a → IsSafeDeed shape heap b
     → IsSafeDeed shape heap (elim t [ true ↦ a | false ↦ b ])
 branches_safe shape heap true a b h k = h
 branches_safe shape heap false a b h k = k
 
+-- what is paid for is safe where the rest is, with the charge that is left; where less is left the thread ends
 pub paying_safe : (shape : ShapeLists) (heap : Heap) (cost : ℕ) (means : Means) (rest : Means → Deed) → IsSafeDeed shape heap (rest (paid cost means))
     → IsSafeDeed shape heap (paying cost means rest)
 paying_safe shape heap cost means rest h = branches_safe shape heap (nat_lt means.charge cost) (ends EventsSpent) (rest (paid cost means)) tt h
 
+-- asking is safe where the request fits and all that comes behind a fitting reply is safe, on any later heap
 pub asking_safe :
     (shape : ShapeLists) (heap : Heap) (request : Request) (means : Means) (rest : ℕ → Means → Deed)
     → IsFittingRequest shape heap request
@@ -61,6 +64,7 @@ asking_safe shape heap request means rest fits h =
     paying_safe shape heap (cost_of request) means (λ left. asks request (λ reply. rest reply left))
     (fits, λ later reply l ok. h later reply (paid (cost_of request) means) l ok)
 
+-- a safe course is a safe deed: each of its reads asks for a cell that exists
 pub evaluating_safe :
     {A : Type 0} (shape : ShapeLists) (good : Heap → A → Type 0) (c : Course A) (means : Means) (rest : A → Means → Deed) (heap : Heap)
     → IsTypedHeap shape heap
@@ -74,6 +78,7 @@ evaluating_safe shape good (reads obj field next) means rest heap typed h k =
     (λ later word left l fits. evaluating_safe shape good (next word) left rest later l.typed (h.1 later word l fits) (behind_later shape good heap later rest l k))
 evaluating_safe shape good (uses_unit next) means rest heap typed h k = evaluating_safe shape good (next tt) means rest heap typed h k
 
+-- so an expression of a kind is a safe step, which hands on a word of that kind
 pub term_step : (shape : ShapeLists) (kinds : List Kind) (t : Term) (kind : Kind) → HasKind (plain_setting shape kinds) t kind → IsSafeStep shape kinds (OfKind kind) (term_deed t)
 term_step shape kinds t kind h heap locals means rest ok k =
     evaluating_safe shape (OfKind kind) (course_of no_calls t locals) means rest heap ok.typed (term_safe shape kinds locals t kind h heap ok) k
@@ -85,6 +90,7 @@ abbrev pub IsTargetObject : (s : Setting) (target : Target) (kind : Kind) → St
 IsTargetObject s (to_shared field) kind h heap obj = obj ≡ SHARED_OBJECT
 IsTargetObject s (to_field object field at) kind h heap obj = OfKind (Ref h.0) heap obj
 
+-- the object of a target stays one while the heap goes on
 pub later_target_object :
     (shape : ShapeLists) (s : Setting) (target : Target) (kind : Kind) (h : StoresKind s target kind) (earlier later : Heap) (obj : ℕ)
     → IsLaterHeap shape earlier later
@@ -93,6 +99,7 @@ pub later_target_object :
 later_target_object shape s (to_shared field) kind h earlier later obj l ok = ok
 later_target_object shape s (to_field object field at) kind h earlier later obj l ok = later_has_kind earlier later l.extends (Ref h.0) obj ok
 
+-- finding the object of a target is a safe step
 pub object_step :
     (shape : ShapeLists) (kinds : List Kind) (target : Target) (kind : Kind) (h : StoresKind (plain_setting shape kinds) target kind)
     → IsSafeStep shape kinds (IsTargetObject (plain_setting shape kinds) target kind h) (object_deed target)
@@ -134,6 +141,7 @@ answer_of_kind heap reply le = below reply le
     below (suc zero) h = refl
     below (suc (suc n)) h = absurd (omega (arith, h))
 
+-- what stands to the right of `=` is a safe step, which hands on a word of the kind that it gives
 pub source_step :
     (shape : ShapeLists) (kinds : List Kind) (source : Source) (kind : Kind)
     → GivesKind (plain_setting shape kinds) source kind

@@ -182,6 +182,7 @@ performed shape p formed sizes s m request t =
 
 -- ---- states
 
+-- before the first turn the journal is empty, each thread stands at its beginning, and no check has come anywhere
 pub first_is_sound :
     (shape : ShapeLists) (p : Program)
     → IsWellFormed shape p

@@ -2,7 +2,8 @@
 use Rattle.std.proofs.Common.{◌≡◌, ℕ, ◌+◌, ◌-◌, ◌^◌, ◌<◌, ◌≤◌, List, [], ◌∷◌, ◌++◌, length, slice_get, Option, Some, None, Bool}
 use Rattle.std.proofs.Common.{true, false, IsSome, refl, sym, ◌∙◌, ap, subst, arith, length-append}
 use Rattle.std.proofs.Math.Nat.{mul-le-mul}
-use Rattle.st_snap.specs.Terms.{Event, Sizes, ShapeLists, IsWithinLimits, AreWithinLimits, New, Load, Store, Cas, Launch, Retire, heap_of, word_at, World, Launched, next, world_from, world_after, first_world, IsLegal, IsLegalNext}
+use Rattle.st_snap.specs.Terms.{Event, Sizes, ShapeLists, IsWithinLimits, AreWithinLimits, New, Load, Store, Cas, Launch, Retire}
+use Rattle.st_snap.specs.Terms.{heap_of, word_at, World, Launched, next, world_from, world_after, first_world, IsLegal, IsLegalNext}
 use Rattle.st_events.specs.Journal.{Written}
 use Rattle.st_events.specs.Sound.{IsSoundWorld}
 use Rattle.st_events.proofs.WorldLemmas.{world_after_one_more}

@@ -4,7 +4,8 @@ use Rattle.std.proofs.Common.{sym, ◌∙◌, ap, subst, arith, IsSome}
 use Rattle.std.specs.Option.{option_flatten}
 use Rattle.std.proofs.lemmas.Bool.Decides.{eqb_tells}
 use Rattle.std.proofs.lemmas.Option.{slice_get_within}
-use Rattle.st_snap.specs.Terms.{Event, New, Load, Store, Cas, Launch, Retire, Sizes, ShapeLists, IsWithinLimits, Heap, Object, heap_of, word_of, word_at, World, Launched, next, world_after, is_lost, IsLegal, IsLegalNext}
+use Rattle.st_snap.specs.Terms.{Event, New, Load, Store, Cas, Launch, Retire, Sizes, ShapeLists, IsWithinLimits}
+use Rattle.st_snap.specs.Terms.{Heap, Object, heap_of, word_of, word_at, World, Launched, next, world_after, is_lost, IsLegal, IsLegalNext}
 use Rattle.st_events.specs.declared.shapes.TheConstants.{MOST_FIELDS}
 use Rattle.st_events.specs.Sound.{IsSoundWorld, IsTypedHeap}
 use Rattle.st_events.proofs.HeapLemmas.{kinds_are_few}

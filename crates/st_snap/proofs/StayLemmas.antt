@@ -4,7 +4,8 @@ use Rattle.std.specs.Option.{option_map}
 use Rattle.std.proofs.lemmas.List.{length-set}
 use Rattle.std.proofs.lemmas.Option.{slice_get_within, slice_get-get_or}
 use Rattle.std.proofs.lemmas.Bool.Decides.{eqb_tells}
-use Rattle.st_snap.specs.Terms.{Event, New, Load, Store, Cas, Launch, Retire, Sizes, ShapeLists, IsWithinLimits, Heap, Object, word_of, word_at, with_object, with_word, set_word, fresh, World, Launched, next, IsLegalNext}
+use Rattle.st_snap.specs.Terms.{Event, New, Load, Store, Cas, Launch, Retire, Sizes, ShapeLists, IsWithinLimits}
+use Rattle.st_snap.specs.Terms.{Heap, Object, word_of, word_at, with_object, with_word, set_word, fresh, World, Launched, next, IsLegalNext}
 use Rattle.st_events.specs.Sound.{IsSoundWorld}
 use Rattle.st_events.proofs.WorldLemmas.{world_after_one_more, at_other}
 use Rattle.st_events.proofs.LegalLemmas.{prefix_is_legal, rest_is_legal}

@@ -1,6 +1,7 @@
 -- A snapshot heap as its callers see it: shape, sizes and journal, and what its calls ask and answer in these terms
 use Rattle.std.specs.Prelude.{◌≡◌, ◌≢◌, ℕ, ◌*◌, ◌<◌, Bool, List, [], ◌∷◌, ◌++◌, length, slice_get, Option, Some, None, IsSome, IsTrue}
-use Rattle.st_snap.specs.Terms.{Event, Sizes, ShapeLists, Heap, word_at, Args, World, Launched, Row, world_after, is_among, is_lost, heap_after, active_checks, kept_rows, lost_pairs, launch_of, IsLegal, fits_cell, args_fit}
+use Rattle.st_snap.specs.Terms.{Event, Sizes, ShapeLists, Heap, word_at, Args}
+use Rattle.st_snap.specs.Terms.{World, Launched, Row, world_after, is_among, is_lost, heap_after, active_checks, kept_rows, lost_pairs, launch_of, IsLegal, fits_cell, args_fit}
 use Rattle.st_snap.specs.declared.lanes.Lane.{Lane}
 use Rattle.st_snap.specs.Lanes.{lanes_after}
 
