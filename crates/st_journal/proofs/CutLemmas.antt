@@ -68,5 +68,6 @@ cut_found byte text at e within =
     take_all (length text - (at + 1)) (drop (at + 1) text) (omega (arith, length-drop (at + 1) text)) in
     rw whole (sym (cut_at_its_place byte text ∙ at_its_place _ _ at text e))
 
+-- where the search for a byte finds no place, nothing is cut off
 pub cut_nowhere : (byte : ℕ) (text : List ℕ) → position (is_byte byte) text ≡ None → no_parts ≡ cut byte text
 cut_nowhere byte text e = sym (cut_at_its_place byte text ∙ nowhere _ _ text e)

@@ -16,6 +16,7 @@ use Rattle.st_journal.proofs.NumberLemmas.{number_is_written, written_is_read}
 
 -- ---- steps that may have no value
 
+-- where two steps together have a value, the first has one, and the second gives the value from it
 pub step_of : {A B : Type 0} (r : Option A) (f : A → Option B) (y : B) → (r >>= f) ≡ Some y → (x : A) × (r ≡ Some x) × (f x ≡ Some y)
 step_of (Some x) f y e = (x, refl, e)
 step_of None f y e = absurd cc
@@ -30,6 +31,7 @@ below_step limit n f y e = elim (cases_lt n limit) [
     nothing : {B : Type 0} (f : ℕ → Option B) (y : B) → (None >>= f) ≡ Some y → ⊥
     nothing f y e = cc
 
+-- a number below a limit passes the test of that limit
 pub below_again : (limit n : ℕ) → n < limit → below limit n ≡ Some n
 below_again limit n lt = let there : ltb n limit ≡ true = lt-ltb n limit lt in rw there refl
 
@@ -38,11 +40,13 @@ pub tested : {A : Type 0} (t : Bool) (x : Option A) (y : A) → cond t x None �
 tested true x y e = (refl, e)
 tested false x y e = absurd cc
 
+-- words that the comparison of bytes finds equal are one word
 pub words_same : (a b : List ℕ) → bytes_eq a b ≡ true → a ≡ b
 words_same a b e = (bytes_eq-Decides a b).0 e
 
 -- ---- the numbers of a line
 
+-- where words are read as numbers, they are the decimal texts of these numbers, each of 64 bits
 pub numbers_are_written : (words : List (List ℕ)) (numbers : List ℕ) → numbers_in words ≡ Some numbers → (words ≡ map decimal numbers) × All IsWord numbers
 numbers_are_written [] numbers e = let none : [] ≡ numbers = cc in subst (λ (ns : List ℕ). ([] ≡ map decimal ns) × All IsWord ns) none (refl, All-nil IsWord)
 numbers_are_written (word ∷ words) numbers e =
@@ -54,6 +58,7 @@ numbers_are_written (word ∷ words) numbers e =
     subst (λ (ns : List ℕ). (word ∷ words ≡ map decimal ns) × All IsWord ns) all
     (ap (λ (w : List ℕ). w ∷ words) one.0 ∙ ap (λ (ws : List (List ℕ)). decimal first.0 ∷ ws) rest.0, All-cons IsWord first.0 others.0 one.1 rest.1)
 
+-- the decimal texts of numbers of 64 bits are read as these numbers
 pub written_are_read : (numbers : List ℕ) → All IsWord numbers → numbers_in (map decimal numbers) ≡ Some numbers
 written_are_read [] fit = refl
 written_are_read (n ∷ numbers) fit = rw (written_is_read n (All-head IsWord n numbers fit), written_are_read numbers (All-tail IsWord n numbers fit)) refl
@@ -190,6 +195,7 @@ retire_takes (m ∷ number ∷ []) e is =
     subst (Spells (codes "R") (m ∷ number ∷ [])) all (refl, (a.0, b.0))
 retire_takes _ e is = absurd cc
 
+-- what a choice gives comes from its first side, and then the test held, or from its second side
 pub choice : {A : Type 0} (t : Bool) (x y : Option A) (z : A) → cond t x y ≡ Some z → ((t ≡ true) × (x ≡ Some z)) ⊎ (y ≡ Some z)
 choice true x y z e = inl (refl, e)
 choice false x y z e = inr e
@@ -197,6 +203,7 @@ choice false x y z e = inr e
 retagged : (tag known numbers : List ℕ) (e : Event) → bytes_eq tag known ≡ true → Spells known numbers e → Spells tag numbers e
 retagged tag known numbers e same spelled = subst (λ (t : List ℕ). Spells t numbers e) (sym (words_same tag known same)) spelled
 
+-- the event that a tag and numbers are read as has this tag and these numbers for its words, and they fit its fields
 pub event_takes : (tag numbers : List ℕ) (e : Event) → All IsWord numbers → event_in tag numbers ≡ Some e → Spells tag numbers e
 unfolding event_in
 event_takes tag numbers e fit is =

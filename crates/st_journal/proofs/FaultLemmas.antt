@@ -72,6 +72,7 @@ version_bad words k e = elim (version_error words (bad k) e) [
     apart : (k : ℕ) → bad k ≡ journal.BadVersion → ⊥
     apart k e = cc
 
+-- whether reading stops as bad at line k depends on the first k lines alone
 pub file_alike : (lines others : List (List ℕ)) (k : ℕ) → take k lines ≡ take k others → file_in lines ≡ fails (bad k) → file_in others ≡ fails (bad k)
 unfolding file_in
 file_alike lines others k alike e = elim (error_step (line_or_bad VERSION_LINE lines) (λ (first : First). version_in (words_in first.0) >=> λ known. sized_file first.1) (bad k) e) [
@@ -109,6 +110,7 @@ least_is_file = record {
   few_verdicts = omega arith;
 }
 
+-- some file of the format has the same first lines as these, as many as are shown
 pub record BeginsFile (lines : List (List ℕ)) (shown : ℕ) : Type 0 where
   pub file : FileLists
   pub is : IsFile file
@@ -164,6 +166,7 @@ begins_sized lines rest k is few e = elim (error_step (line_or_bad SIZES_LINE re
   ]
 ]
 
+-- where reading stops as bad at line k, the lines before k begin the text of some file
 pub bad_begins_file : (lines : List (List ℕ)) (k : ℕ) → length lines < 2 ^ 32 → file_in lines ≡ fails (bad k) → BeginsFile lines (k - 1)
 unfolding file_in
 bad_begins_file lines k few e = elim (error_step (line_or_bad VERSION_LINE lines) (λ (first : First). version_in (words_in first.0) >=> λ known. sized_file first.1) (bad k) e) [
@@ -208,6 +211,7 @@ pub record OtherFirst (lines : List (List ℕ)) : Type 0 where
   pub other : digits ≡ decimal VERSION → ⊥
   pub first : lines ≡ line (codes "strobe" ∷ codes "journal" ∷ digits ∷ []) ∷ rest
 
+-- where reading answers BadVersion, the first line tells a decimal number that is no version it knows
 pub bad_version_is_other : (lines : List (List ℕ)) → file_in lines ≡ fails journal.BadVersion → OtherFirst lines
 unfolding file_in
 bad_version_is_other lines e =
@@ -228,6 +232,7 @@ bad_version_is_other lines e =
       ]
     ]
 
+-- where the first line tells such a number, reading answers BadVersion
 pub other_is_bad_version : (lines : List (List ℕ)) → OtherFirst lines → file_in lines ≡ fails journal.BadVersion
 unfolding file_in
 other_is_bad_version lines o =

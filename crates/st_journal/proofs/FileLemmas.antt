@@ -24,9 +24,11 @@ use Rattle.st_journal.proofs.StepLemmas.{content_makes_the_line, rows_lines, las
 abbrev Read : Type 0
 Read = Result FileLists JournalError
 
+-- reading has come to the end, with this file
 abbrev pub done : FileLists → Read
 done file = Ok file
 
+-- reading has stopped, with this error
 abbrev pub fails : JournalError → Read
 fails error = Err error
 
@@ -36,15 +38,18 @@ ok_step : {A B : Type 0} (r : Result A JournalError) (f : A → Result B Journal
 ok_step (Ok x) f y e = (x, refl, e)
 ok_step (Err error) f y e = absurd cc
 
+-- an error of two steps is the error of the first, or the first went well and it is the error of the second
 pub error_step : {A B : Type 0} (r : Result A JournalError) (f : A → Result B JournalError) (error : JournalError) → (r >=> f) ≡ Err error
     → (r ≡ Err error) ⊎ ((x : A) × (r ≡ Ok x) × (f x ≡ Err error))
 error_step (Ok x) f error e = inr (x, refl, e)
 error_step (Err other) f error e = let same : other ≡ error = cc in inl (ap (λ (x : JournalError). Err x) same)
 
+-- a line that is taken told something
 pub told_some : {X : Type 0} (n : ℕ) (found : Option X) (x : X) → told_at n found ≡ Ok x → found ≡ Some x
 told_some n None x e = absurd cc
 told_some n (Some y) x e = let same : y ≡ x = cc in ap Some same
 
+-- the one error at a line that tells nothing is that this line is bad
 pub told_error : {X : Type 0} (n : ℕ) (found : Option X) (error : JournalError) → told_at n found ≡ Err error → error ≡ journal.BadLine n
 told_error n None error e = cc
 told_error n (Some y) error e = absurd cc
@@ -58,16 +63,20 @@ lines_by_rows z rows =
     ap (λ (ls : List (List ℕ)). line (version_words VERSION) ∷ line (sizes_words z) ∷ ls)
     (sym (append_assoc (map (λ event. line (event_words event)) rows.events) (map (λ verdict. line (verdict_words verdict)) (enumerate_from 1 rows.verdicts)) (last_line rows ∷ [])))
 
+-- a line in which words are found is the line that these words make
 pub words_make_the_line : (whole text : List ℕ) (words : List (List ℕ)) → content whole ≡ Some text → words_in text ≡ words → whole ≡ line words
 words_make_the_line whole text words is found =
     content_makes_the_line whole text is ∙ ap (λ (t : List ℕ). t ++ newline ∷ []) (sym (found_words_join text) ∙ ap (join_with_byte 32) found)
 
+-- before the first event and verdict there is nothing that could not fit
 pub no_rows_fit : FitsRows no_rows
 no_rows_fit = record { events = All-nil FitsFields; verdicts = All-nil FitsVerdict }
 
+-- these are the lines of this file, and it has a text
 abbrev pub OfFormat : List (List ℕ) → FileLists → Type 0
 OfFormat lines file = IsFile file × (lines ≡ file_lines file)
 
+-- lines that are read to the end as a file are the lines of this file
 pub read_is_of_the_format : (lines : List (List ℕ)) (file : FileLists) → file_in lines ≡ done file → OfFormat lines file
 unfolding file_in
 read_is_of_the_format lines file e =
@@ -114,6 +123,7 @@ sizes_line_is_read z rest fits =
       sizes_are_read z fits,
     ) refl
 
+-- the lines of a file that has a text are read to the end, as this file
 pub the_format_is_read : (file : FileLists) → IsFile file → file_in (file_lines file) ≡ done file
 the_format_is_read file is =
     let rows : RowLists = record { events = file.events; verdicts = file.verdicts } in
@@ -125,6 +135,7 @@ the_format_is_read file is =
 
 -- ---- the first bad line depends on no line after it
 
+-- after the first two lines, too: that line k is bad depends on no line after it
 pub with_alike : (z : Sizes) (lines others : List (List ℕ)) (k : ℕ) → take (k - 2) lines ≡ take (k - 2) others
     → file_with z lines ≡ fails (journal.BadLine k) → file_with z others ≡ fails (journal.BadLine k)
 with_alike z lines others k alike e = elim (error_step (rows_in FIRST_ROW no_rows lines) (λ (rows : RowLists). done (file_of z rows)) (journal.BadLine k) e) [
@@ -138,6 +149,7 @@ with_alike z lines others k alike e = elim (error_step (rows_in FIRST_ROW no_row
     ok_is_no_error : (z : Sizes) (rows : RowLists) (k : ℕ) → done (file_of z rows) ≡ fails (journal.BadLine k) → ⊥
     ok_is_no_error z rows k e = cc
 
+-- a bad line after the second is one that the reading of rows stops at
 pub bad_of_with : (z : Sizes) (lines : List (List ℕ)) (k : ℕ) → file_with z lines ≡ fails (journal.BadLine k) → rows_in FIRST_ROW no_rows lines ≡ Err (journal.BadLine k)
 bad_of_with z lines k e = elim (error_step (rows_in FIRST_ROW no_rows lines) (λ (rows : RowLists). done (file_of z rows)) (journal.BadLine k) e) [
   | inl bad ↦ bad

@@ -24,6 +24,7 @@ use Rattle.st_journal.proofs.SplitLemmas.{IsPlain, numbered_are_plain, digits_ar
 
 -- ---- the first of some lines
 
+-- where a first line is taken, the lines begin with it, and it had an end
 pub first_line_of : (n : ℕ) (lines : List (List ℕ)) (text : List ℕ) (rest : List (List ℕ)) → line_or_bad n lines ≡ first_is text rest
     → (whole : List ℕ) × (lines ≡ whole ∷ rest) × (content whole ≡ Some text)
 unfolding line_or_bad
@@ -32,6 +33,7 @@ first_line_of n (whole ∷ lines) text rest e =
     let parts = first_line_parts n (content whole) lines text rest e in
     (whole, ap (λ (ls : List (List ℕ)). whole ∷ ls) parts.1, parts.0)
 
+-- a line with an end is taken where it comes first
 pub first_line_is : (n : ℕ) (whole text : List ℕ) (rest : List (List ℕ)) → content whole ≡ Some text → line_or_bad n (whole ∷ rest) ≡ first_is text rest
 unfolding line_or_bad
 first_line_is n whole text rest is = rw is refl
@@ -69,11 +71,13 @@ error_of_first : (n : ℕ) (found : Option (List ℕ)) (rest : List (List ℕ)) 
 error_of_first n None rest error e = (refl, cc)
 error_of_first n (Some text) rest error e = absurd cc
 
+-- where no first line is taken, the answer is that this line is bad
 pub first_error : (n : ℕ) (lines : List (List ℕ)) (error : JournalError) → line_or_bad n lines ≡ Err error → error ≡ journal.BadLine n
 unfolding line_or_bad
 first_error n [] error e = cc
 first_error n (l ∷ lines) error e = (error_of_first n (content l) lines error e).1
 
+-- that no first line is taken depends on the first line alone
 pub errors_alike : (n j : ℕ) (lines others : List (List ℕ)) (error : JournalError) → take (suc j) lines ≡ take (suc j) others
     → line_or_bad n lines ≡ Err error → line_or_bad n others ≡ Err error
 unfolding line_or_bad
@@ -127,6 +131,7 @@ known_number : (n : Option ℕ) → is_known n ≡ true → n ≡ Some VERSION
 known_number None e = absurd cc
 known_number (Some n) e = ap Some (eqb-true n VERSION e)
 
+-- only the words that `write` puts first tell the version that is read
 pub known_version_is : (words : List (List ℕ)) → version_in words ≡ known → words ≡ version_words VERSION
 unfolding version_in version_of
 known_version_is [] e = absurd cc
@@ -138,6 +143,7 @@ known_version_is (a ∷ b ∷ c ∷ []) e =
     rw (words_same a (codes "strobe") parts.0, words_same b (codes "journal") parts.1, number.0) refl
 known_version_is (a ∷ b ∷ c ∷ d ∷ more) e = absurd cc
 
+-- the words that `write` puts first tell the version that is read
 pub version_is_known : version_in (version_words VERSION) ≡ known
 unfolding version_in version_of
 version_is_known =
@@ -150,6 +156,7 @@ pub record OtherVersion (words : List (List ℕ)) : Type 0 where
   pub other : digits ≡ decimal VERSION → ⊥
   pub told : words ≡ codes "strobe" ∷ codes "journal" ∷ digits ∷ []
 
+-- words for which reading answers BadVersion are strobe, journal and another decimal number
 pub other_version_is : (words : List (List ℕ)) → version_in words ≡ fails journal.BadVersion → OtherVersion words
 unfolding version_in version_of
 other_version_is [] e = absurd cc
@@ -165,6 +172,7 @@ other_version_is (a ∷ b ∷ c ∷ []) e =
     }
 other_version_is (a ∷ b ∷ c ∷ d ∷ more) e = absurd cc
 
+-- the words strobe, journal and another decimal number make reading answer BadVersion
 pub version_is_other : (digits : List ℕ) → is_number digits ≡ true → (digits ≡ decimal VERSION → ⊥)
     → version_in (codes "strobe" ∷ codes "journal" ∷ digits ∷ []) ≡ fails journal.BadVersion
 unfolding version_in version_of
@@ -173,6 +181,7 @@ version_is_other digits number other =
     false_from_ne_true (is_known (number_in digits)) (λ e. other ((number_is_written digits VERSION (known_number (number_in digits) e)).0)) in
     rw (number, unknown) refl
 
+-- the words of the first line have two errors alone: the line is bad, or the version is another
 pub version_error : (words : List (List ℕ)) (error : JournalError) → version_in words ≡ fails error → (error ≡ journal.BadLine VERSION_LINE) ⊎ (error ≡ journal.BadVersion)
 unfolding version_in version_of
 version_error [] error e = inl cc
@@ -186,9 +195,11 @@ three_plain digits plain =
     All-cons IsPlain (codes "strobe") (codes "journal" ∷ digits ∷ []) refl
     (All-cons IsPlain (codes "journal") (digits ∷ []) refl (All-cons IsPlain digits [] plain (All-nil IsPlain)))
 
+-- the words of the first line have no blank and no newline in them
 pub version_is_plain : All IsPlain (version_words VERSION)
 version_is_plain = three_plain (decimal VERSION) (decimal_is_plain VERSION (omega arith))
 
+-- the words of a first line with another version have no blank and no newline in them
 pub other_is_plain : (digits : List ℕ) → is_number digits ≡ true → All IsPlain (codes "strobe" ∷ codes "journal" ∷ digits ∷ [])
 other_is_plain digits number = three_plain digits (digits_are_plain digits (number_is_digits digits number))
 
@@ -260,6 +271,7 @@ sizes_are_numbers (m ∷ l ∷ o ∷ p ∷ e ∷ q ∷ []) z is =
     subst (λ (z : Sizes). (m ∷ l ∷ o ∷ p ∷ e ∷ q ∷ [] ≡ size_numbers z) × AreWithinLimits z) all (refl, within_limits (sized m l o p e q) t.0)
 sizes_are_numbers _ z is = absurd cc
 
+-- words that are read as sizes are those that `write` puts for these sizes, which are within the limits
 pub sizes_are_written : (words : List (List ℕ)) (z : Sizes) → sizes_in words ≡ Some z → (words ≡ sizes_words z) × AreWithinLimits z
 unfolding sizes_in
 sizes_are_written [] z e = absurd cc
@@ -279,9 +291,11 @@ size_words z fits =
     (All-cons IsWord z.events (z.calls ∷ []) (omega (arith, fits.events.1))
     (All-cons IsWord z.calls [] (omega (arith, fits.calls)) (All-nil IsWord))))))
 
+-- the words of the second line have no blank and no newline in them
 pub sizes_are_plain : (z : Sizes) → AreWithinLimits z → All IsPlain (sizes_words z)
 sizes_are_plain z fits = numbered_are_plain (codes "sizes") (size_numbers z) refl (size_words z fits)
 
+-- the words of sizes within the limits are read as these sizes
 pub sizes_are_read : (z : Sizes) → AreWithinLimits z → sizes_in (sizes_words z) ≡ Some z
 unfolding sizes_in sizes_of
 sizes_are_read z fits =

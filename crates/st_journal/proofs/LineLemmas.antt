@@ -11,9 +11,11 @@ use Rattle.st_journal.specs.Lines.{lines}
 use Rattle.st_journal.specs.Reading.{content, line_or_bad}
 use Rattle.st_journal.specs.Words.{cut}
 
+-- what stands before a byte, and what stands after it
 abbrev pub Parts : Type 0
 Parts = List ℕ × List ℕ
 
+-- something was cut off: these are the two parts
 abbrev pub some_parts : List ℕ → List ℕ → Option Parts
 some_parts a b = Some (a, b)
 
@@ -53,6 +55,7 @@ cuts_after byte b text (Some parts) first rest false other further e =
     let ends = same_parts (b ∷ parts.0) parts.1 first rest e in
     subst (λ (p : Parts). Cuts byte (b ∷ text) p.0 p.1) (λ i. (ends.0 i, ends.1 i)) (goes_further byte b text parts.0 parts.1 other (further parts.0 parts.1 refl))
 
+-- what is cut off a text and what is left make the text again, with the byte between them
 pub cut_gives : (byte : ℕ) (text first rest : List ℕ) → cut byte text ≡ some_parts first rest → Cuts byte text first rest
 cut_gives byte [] first rest e = absurd cc
 cut_gives byte (b ∷ text) first rest e = cuts_after byte b text (cut byte text) first rest (eqb b byte) refl (cut_gives byte text) e
@@ -68,6 +71,7 @@ lines_after b text first rest None false other further e = absurd cc
 lines_after b text first rest (Some parts) false other further e =
     let ends = same_parts (b ∷ parts.0) parts.1 first rest e in rw (← ends.0, ← ends.1, further parts.0 parts.1 refl) refl
 
+-- what is cut off at the first newline is the first line, and the other lines are those of what is left
 pub lines_of_cut : (text first rest : List ℕ) → cut newline text ≡ some_parts first rest → lines text ≡ (first ++ newline ∷ []) ∷ lines rest
 lines_of_cut [] first rest e = absurd cc
 lines_of_cut (b ∷ text) first rest e = lines_after b text first rest (cut newline text) (eqb b newline) refl (lines_of_cut text) e
@@ -92,10 +96,12 @@ no_line_of : (b : ℕ) (text : List ℕ) (t : Bool) → cond t ((newline ∷ [])
 no_line_of b text true e = cc
 no_line_of b text false e = onto_first_is_some b (lines text) e
 
+-- only the empty text has no line
 pub no_lines : (text : List ℕ) → lines text ≡ [] → text ≡ []
 no_lines [] e = refl
 no_lines (b ∷ text) e = absurd (no_line_of b text (eqb b newline) e)
 
+-- a text without a newline is empty, or it is one line
 pub lines_without_end : (text : List ℕ) → cut newline text ≡ None → (lines text ≡ []) ⊎ (lines text ≡ text ∷ [])
 lines_without_end [] e = inl refl
 lines_without_end (b ∷ text) e = inr (one_line b text (cut newline text) (eqb b newline) (lines_without_end text) (no_lines text) e)
@@ -105,11 +111,13 @@ pub content_of_a_line : (first : List ℕ) (cuts : (more : List ℕ) → cut new
 unfolding content
 content_of_a_line first cuts = rw (cuts []) refl
 
+-- where something can be cut off at a newline, it is what is taken as the first line
 pub first_line_is_cut : (n : ℕ) (text first rest : List ℕ) → cut newline text ≡ some_parts first rest → line_or_bad n (lines text) ≡ Ok (first, lines rest)
 unfolding line_or_bad
 first_line_is_cut n text first rest e =
     rw (lines_of_cut text first rest e, content_of_a_line first (cut_gives newline text first rest e).again) refl
 
+-- in a text without a newline there is no line to take, and the answer is that this line is bad
 pub no_first_line : (n : ℕ) (text : List ℕ) → cut newline text ≡ None → line_or_bad n (lines text) ≡ Err (journal.BadLine n)
 unfolding line_or_bad content
 no_first_line n text e = elim (lines_without_end text e) [
@@ -117,6 +125,7 @@ no_first_line n text e = elim (lines_without_end text e) [
   | inr one ↦ rw (one, e) refl
 ]
 
+-- what is left after a line is shorter than the text, so reading line by line ends
 pub rest_is_shorter : (text first rest : List ℕ) → cut newline text ≡ some_parts first rest → length rest < length text
 rest_is_shorter text first rest e =
     let parts : text ≡ first ++ newline ∷ rest = (cut_gives newline text first rest e).parts in

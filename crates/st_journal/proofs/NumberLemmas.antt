@@ -12,6 +12,7 @@ use Rattle.std.proofs.lemmas.Str.{IsUtf8-from_ascii}
 use Rattle.std.proofs.lemmas.Str.Parse.{IsNumeralModel, numerals_by_value, tells_all_ascii_digits, parse_digits}
 use Rattle.st_journal.specs.Words.{is_number, number_in, below}
 
+-- a text of digits alone
 abbrev pub Digits : List ℕ → Type 0
 Digits ds = all_ascii_digits ds ≡ true
 
@@ -37,6 +38,7 @@ number_is_not_empty (d ∷ ds) e = omega arith
 pub number_is_text : (word : List ℕ) → is_number word ≡ true → IsUtf8 word
 number_is_text word e = IsUtf8-from_ascii word (IsAscii-from_digits word (decimals.to word (number_is_digits word e)))
 
+-- a word that is no decimal number is read as none
 pub no_number : (word : List ℕ) → is_number word ≡ false → number_in word ≡ None
 unfolding number_in
 no_number word e = rw e refl
@@ -80,6 +82,7 @@ chosen : (t : Bool) (x : Option ℕ) (n : ℕ) → cond t x None ≡ Some n → 
 chosen true x n e = (refl, e)
 chosen false x n e = absurd cc
 
+-- a word that is read as a number is the decimal text of this number, which has 64 bits
 pub number_is_written : (word : List ℕ) (n : ℕ) → number_in word ≡ Some n → (word ≡ decimal n) × (n < 2 ^ 64)
 unfolding number_in
 number_is_written word n e =
@@ -94,9 +97,11 @@ first_is_no_zero n fits begins = elim (cases_lt 0 n) [
   | inr none ↦ let is : n ≡ 0 = omega arith in rw is (ap length (decimal_digit 0 (omega arith)))
 ]
 
+-- the decimal text of a number of 64 bits has digits alone and no leading zero
 pub written_is_number : (n : ℕ) → n < 2 ^ 64 → is_number (decimal n) ≡ true
 written_is_number n fits = is_number_of_digits (decimal n) (digits_decimal decimals n fits) (decimal_nonempty n fits) (first_is_no_zero n fits)
 
+-- the decimal text of a number of 64 bits is read as this number
 pub written_is_read : (n : ℕ) → n < 2 ^ 64 → number_in (decimal n) ≡ Some n
 unfolding number_in
 written_is_read n fits =

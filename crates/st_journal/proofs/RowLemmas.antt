@@ -13,15 +13,18 @@ use Rattle.st_journal.specs.Reading.{Gives, content, error_of, line_or_bad, with
 use Rattle.st_journal.specs.Rows.{RowLists, TakesLine, ended, rows_in, line_step}
 use Rattle.st_journal.proofs.LineLemmas.{no_lines}
 
+-- a first line without its end, and the lines after it
 abbrev pub First : Type 0
 First = List ℕ × List (List ℕ)
 
+-- this first line was taken, and these lines are left
 abbrev pub first_is : List ℕ → List (List ℕ) → Result First JournalError
 first_is line rest = Ok (line, rest)
 
 abbrev first_of : List ℕ → List (List ℕ) → First
 first_of line rest = (line, rest)
 
+-- the line that was taken is what was found before its end, and the lines that are left are those after it
 pub first_line_parts : (n : ℕ) (found : Option (List ℕ)) (rest : List (List ℕ)) (line : List ℕ) (more : List (List ℕ))
     → with_rest n found rest ≡ first_is line more → (found ≡ Some line) × (rest ≡ more)
 first_line_parts n None rest line more e = absurd cc
@@ -29,6 +32,7 @@ first_line_parts n (Some x) rest line more e =
     let pair : first_of x rest ≡ first_of line more = cc in
     (ap (λ (p : First). Some p.0) pair, ap (λ (p : First). p.1) pair)
 
+-- a line was taken: these are the rows now, and this tells whether it was the last line
 abbrev pub step_is : RowLists → Bool → Option (RowLists × Bool)
 step_is rows is_last = Some (rows, is_last)
 
@@ -94,5 +98,6 @@ ended_late : (n : ℕ) (rows : RowLists) (all : List (List ℕ)) → (all ≡ []
 ended_late n rows [] some = absurd (some refl)
 ended_late n rows (line ∷ all) some = refl
 
+-- where text is left after the counts, the line after them is bad
 pub something_left : (n : ℕ) (rows : RowLists) (text : List ℕ) → (length text == 0) ≡ false → ended n rows (lines text) ≡ Err (journal.BadLine (n + 1))
 something_left n rows text some = ended_late n rows (lines text) (λ e. eqb-false (length text) 0 some (ap length (no_lines text e)))

@@ -38,6 +38,7 @@ step_at rows whole None after is_last e = absurd cc
 
 -- ---- what is read is written so
 
+-- these are the lines of these rows and of their counts, and all of them fit
 pub record Spelled (before : List (List ℕ)) (rows : RowLists) : Type 0 where
   pub lines : before ≡ rows_lines rows ++ last_line rows ∷ []
   pub fits : FitsRows rows
@@ -70,6 +71,7 @@ spelled_after n rows all whole rest (Some (after, true)) is fits further e =
       few_verdicts = ends.few_verdicts;
     })
 
+-- where lines are read to the end, the lines of the rows before and these are the lines of all rows with their counts
 pub rows_are_spelled : (n : ℕ) (rows all : RowLists) (lines : List (List ℕ)) → FitsRows rows → rows_in n rows lines ≡ done all → Spelled (rows_lines rows ++ lines) all
 unfolding rows_in
 rows_are_spelled n rows all [] fits e = absurd cc
@@ -128,6 +130,7 @@ verdicts_are_read rows k (v ∷ verdicts) rest next few fit n =
 abbrev nothing : RowLists
 nothing = record { events = []; verdicts = [] }
 
+-- the lines of rows and of their counts are read to the end, as these rows
 pub rows_are_read : (n : ℕ) (rows : RowLists) → FitsRows rows → IsHalf (length rows.events) → IsHalf (length rows.verdicts)
     → rows_in n nothing (rows_lines rows ++ last_line rows ∷ []) ≡ done rows
 rows_are_read n rows fits few_events few_verdicts =
@@ -181,6 +184,7 @@ alike_after n k rest other None further alike e = e
 alike_after n k rest other (Some (after, false)) further alike e = further after e
 alike_after n k rest other (Some (after, true)) further alike e = ended_alike n k after rest other alike e
 
+-- that reading stops at line k depends on no line after k
 pub bad_line_is_local : (n : ℕ) (rows : RowLists) (lines others : List (List ℕ)) (k : ℕ) → take (k + 1 - n) lines ≡ take (k + 1 - n) others
     → rows_in n rows lines ≡ bad k → rows_in n rows others ≡ bad k
 unfolding rows_in
@@ -279,6 +283,7 @@ begun_after n k rows whole rest (Some (after, true)) is fits place few further e
     let at = step_at rows whole (content whole) after true is in
     begun_whole n k rows after whole rest fits place few (line_ends rows after whole at.0 at.1 at.2) e
 
+-- where reading stops at line k, the lines before it are the first of some rows with their counts
 pub bad_line_is_begun : (n : ℕ) (rows : RowLists) (lines : List (List ℕ)) (k : ℕ) → FitsRows rows → n ≡ length (rows_lines rows) + 3
     → length (rows_lines rows) + length lines < 2 ^ 32 → rows_in n rows lines ≡ bad k → Begun (rows_lines rows ++ lines) (k - 3)
 unfolding rows_in

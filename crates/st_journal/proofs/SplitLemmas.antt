@@ -16,29 +16,33 @@ use Rattle.st_journal.specs.Words.{cut, is_byte, words_in}
 use Rattle.st_journal.proofs.LineLemmas.{some_parts}
 use Rattle.st_journal.proofs.NumberLemmas.{decimals}
 
--- a byte that is neither blank nor a newline, and one that is no newline
+-- a byte above the blank, so neither a blank nor a newline
 abbrev pub is_plain : ℕ → Bool
 is_plain b = ltb 32 b
 
+-- a byte above the newline
 abbrev pub is_inner : ℕ → Bool
 is_inner b = ltb 10 b
 
--- a word of a line
+-- neither a blank nor a newline stands in this word
 abbrev pub IsPlain : List ℕ → Type 0
 IsPlain word = list_all is_plain word ≡ true
 
+-- each byte of the text is above the newline, so the text is within one line
 abbrev pub IsInner : List ℕ → Type 0
 IsInner text = list_all is_inner text ≡ true
 
 digit_is_plain : (b : ℕ) → is_ascii_digit b ≡ true → is_plain b ≡ true
 digit_is_plain b e = let parts = and_parts (leb 48 b) (leb b 57) e in lt-ltb 32 b (omega (arith, leb-true 48 b parts.0))
 
+-- digits are neither blanks nor newlines
 pub digits_are_plain : (word : List ℕ) → all_ascii_digits word ≡ true → IsPlain word
 digits_are_plain [] e = refl
 digits_are_plain (b ∷ word) e =
     let parts = and_parts (is_ascii_digit b) (all_ascii_digits word) e in
     and_from (is_plain b) (list_all is_plain word) (digit_is_plain b parts.0) (digits_are_plain word parts.1)
 
+-- the decimal text of a number has no blank and no newline in it
 pub decimal_is_plain : (n : ℕ) → n < 2 ^ 64 → IsPlain (decimal n)
 decimal_is_plain n fits = digits_are_plain (decimal n) (digits_decimal decimals n fits)
 
@@ -48,6 +52,7 @@ numbers_are_plain [] fit = All-nil IsPlain
 numbers_are_plain (n ∷ numbers) fit =
     All-cons IsPlain (decimal n) (map decimal numbers) (decimal_is_plain n (All-head IsWord n numbers fit)) (numbers_are_plain numbers (All-tail IsWord n numbers fit))
 
+-- the words of a line of numbers have no blank and no newline in them
 pub numbered_are_plain : (tag : List ℕ) (numbers : List ℕ) → IsPlain tag → All IsWord numbers → All IsPlain (numbered tag numbers)
 numbered_are_plain tag numbers plain fit = All-cons IsPlain tag (map decimal numbers) plain (numbers_are_plain numbers fit)
 
@@ -95,6 +100,7 @@ pub line_is_cut : (words : List (List ℕ)) (more : List ℕ) → All IsPlain wo
 line_is_cut words more plain =
     ap (cut newline) (append_assoc (join_with_byte 32 words) (newline ∷ []) more) ∙ inner_is_cut (join_with_byte 32 words) more (joined_is_inner words plain)
 
+-- before the end of a line of such words stand the words, joined with blanks
 pub content_of_line : (words : List (List ℕ)) → All IsPlain words → content (line words) ≡ Some (join_with_byte 32 words)
 unfolding content
 content_of_line words plain = rw (inner_is_cut (join_with_byte 32 words) [] (joined_is_inner words plain)) refl

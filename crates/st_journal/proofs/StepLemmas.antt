@@ -26,11 +26,13 @@ use Rattle.st_journal.proofs.WrittenLemmas.{half_is_word, event_is_plain, event_
 
 -- ---- the words of a row
 
+-- the words of the line that tells a row
 abbrev pub row_words : Row → List (List ℕ)
 row_words (row.Event event) = event_words event
 row_words (row.Verdict number verdict) = codes "V" ∷ decimal number ∷ parts_of verdict
 row_words (row.End events verdicts) = numbered (codes "end") (events ∷ verdicts ∷ [])
 
+-- each number of the row fits the type of its field
 abbrev pub FitsRow : Row → Type 0
 FitsRow (row.Event event) = FitsFields event
 FitsRow (row.Verdict number verdict) = IsHalf number × FitsVerdict verdict
@@ -80,6 +82,7 @@ numbered_row_is_written tag numbers r fit e =
           subst (Told (numbered tag numbers)) is (event_takes tag numbers a.0 fit a.1)
     ]
 
+-- words that are read as a row are the words of this row, and it fits
 pub row_is_written : (words : List (List ℕ)) (r : Row) → row_in words ≡ Some r → (words ≡ row_words r) × FitsRow r
 unfolding row_in
 row_is_written [] r e = absurd cc
@@ -93,6 +96,7 @@ row_is_written (tag ∷ words) r e =
           (ap (λ (ws : List (List ℕ)). tag ∷ ws) w.0 ∙ told.0, told.1)
     ]
 
+-- the words of a row that fits are read as this row
 pub row_is_read : (r : Row) → FitsRow r → row_in (row_words r) ≡ Some r
 unfolding row_in verdict_row_in numbered_row_in end_row_in
 row_is_read (row.Event event) fits = event_is_read event fits
@@ -104,6 +108,7 @@ row_is_read (row.End events verdicts) fits =
       below_again (2 ^ 32) verdicts fits.1,
     ) refl
 
+-- the words of a row that fits have no blank and no newline in them
 pub row_is_plain : (r : Row) → FitsRow r → All IsPlain (row_words r)
 row_is_plain (row.Event event) fits = event_is_plain event fits
 row_is_plain (row.Verdict number verdict) fits =
@@ -137,6 +142,7 @@ ends : (parts : Parts) (text : List ℕ) → before_end parts ≡ Some text → 
 ends (first, []) text e = (cc, refl)
 ends (first, b ∷ rest) text e = absurd cc
 
+-- a line with an end is what stands before the end, and a newline
 pub content_makes_the_line : (whole text : List ℕ) → content whole ≡ Some text → whole ≡ text ++ newline ∷ []
 unfolding content
 content_makes_the_line whole text e =
@@ -144,11 +150,13 @@ content_makes_the_line whole text e =
     let p = ends a.0 text a.2 in
     (cut_gives newline whole a.0.0 a.0.1 a.1).parts ∙ ap (λ (f : List ℕ). f ++ newline ∷ a.0.1) p.0 ∙ ap (λ (r : List ℕ). text ++ newline ∷ r) p.1
 
+-- a line that is read as a row is the line that the words of this row make
 pub row_makes_the_line : (whole text : List ℕ) (r : Row) → content whole ≡ Some text → row_in (words_in text) ≡ Some r → (whole ≡ line (row_words r)) × FitsRow r
 row_makes_the_line whole text r is reads =
     let told = row_is_written (words_in text) r reads in
     (content_makes_the_line whole text is ∙ ap (λ (t : List ℕ). t ++ newline ∷ []) (sym (found_words_join text) ∙ ap (join_with_byte 32) told.0), told.1)
 
+-- the line of a row that fits has an end, and the words before it are read as this row
 pub row_is_found : (r : Row) → FitsRow r → (content (line (row_words r)) ≡ Some (join_with_byte 32 (row_words r))) × (row_in (words_in (join_with_byte 32 (row_words r))) ≡ Some r)
 row_is_found r fits =
     let plain = row_is_plain r fits in
@@ -167,18 +175,23 @@ verdict_line_is number (verdict.Abandoned obj) = refl
 
 -- ---- the lines of the rows so far
 
+-- the lines of events
 abbrev pub event_lines : List Event → List (List ℕ)
 event_lines events = map (λ event. line (event_words event)) events
 
+-- the lines of verdicts that have their numbers
 abbrev pub numbered_lines : List (ℕ × Verdict) → List (List ℕ)
 numbered_lines verdicts = map (λ verdict. line (verdict_words verdict)) verdicts
 
+-- the lines of the rows so far: those of the events, then those of the verdicts with numbers from 1
 abbrev pub rows_lines : RowLists → List (List ℕ)
 rows_lines rows = event_lines rows.events ++ numbered_lines (enumerate_from 1 rows.verdicts)
 
+-- the line that tells how many events and verdicts these rows have
 abbrev pub last_line : RowLists → List ℕ
 last_line rows = line (numbered (codes "end") (length rows.events ∷ length rows.verdicts ∷ []))
 
+-- each number of these events and verdicts fits the type of its field
 pub record FitsRows (rows : RowLists) : Type 0 where
   pub events : All FitsFields rows.events
   pub verdicts : All FitsVerdict rows.verdicts
@@ -239,6 +252,7 @@ row_adds rows after (row.End events verdicts) fits so_far put =
     let u = tested (eqb verdicts (length rows.verdicts)) (step_is rows true) (pair after false) t.1 in
     let is = same_pair rows after true false u.1 in absurd (true≢false is.1)
 
+-- a line that is taken and is not the last is the one that stands behind the lines so far
 pub line_adds : (rows after : RowLists) (whole text : List ℕ) → content whole ≡ Some text → FitsRows rows → line_step rows text ≡ step_is after false
     → (rows_lines after ≡ rows_lines rows ++ whole ∷ []) × FitsRows after
 unfolding line_step
@@ -276,6 +290,7 @@ row_ends rows after (row.End events verdicts) fits put =
       few_verdicts = subst IsHalf each fits.1;
     }
 
+-- a line that is taken as the last tells the counts of the rows so far, which stay as they are
 pub line_ends : (rows after : RowLists) (whole text : List ℕ) → content whole ≡ Some text → line_step rows text ≡ step_is after true → Ends rows whole after
 unfolding line_step
 line_ends rows after whole text is step =
@@ -286,12 +301,14 @@ line_ends rows after whole text is step =
 
 -- ---- the step at a line of the format
 
+-- before the first verdict the line of an event is taken, and adds this event
 pub event_step : (rows : RowLists) (e : Event) → rows.verdicts ≡ [] → FitsFields e → (content (line (event_words e)) >>= line_step rows) ≡ step_is (with_event rows e) false
 unfolding line_step put_row
 event_step rows e none fits =
     let found = row_is_found (row.Event e) fits in
     rw (found.0, found.1, none) refl
 
+-- the line of a verdict with the next number is taken, and adds this verdict
 pub verdict_step : (rows : RowLists) (n : ℕ) (v : Verdict) → n ≡ length rows.verdicts + 1 → IsHalf n → FitsVerdict v
     → (content (line (verdict_words (n, v))) >>= line_step rows) ≡ step_is (with_verdict rows v) false
 unfolding line_step put_row
@@ -300,6 +317,7 @@ verdict_step rows n v next few fits =
     let same : eqb n (length rows.verdicts + 1) ≡ true = eq-eqb n (length rows.verdicts + 1) next in
     ap (λ (l : List ℕ). content l >>= line_step rows) (sym (verdict_line_is n v)) ∙ rw (found.0, found.1, same) refl
 
+-- the line with the counts of the rows so far is taken as the last
 pub end_step : (rows : RowLists) → IsHalf (length rows.events) → IsHalf (length rows.verdicts) → (content (last_line rows) >>= line_step rows) ≡ step_is rows true
 unfolding line_step put_row
 end_step rows few_events few_verdicts =

@@ -36,6 +36,7 @@ joined_after : (b : ℕ) (text : List ℕ) (t : Bool) → eqb b newline ≡ t �
 joined_after b text true same rest = let is : b ≡ newline = eqb-true b newline same in rw (is, rest) refl
 joined_after b text false other rest = joined_onto_first b (lines text) ∙ ap (λ (t : List ℕ). b ∷ t) rest
 
+-- the lines of a text, one after another, are the text
 pub lines_are_joined : (text : List ℕ) → joined (lines text) ≡ text
 lines_are_joined [] = refl
 lines_are_joined (b ∷ text) = joined_after b text (eqb b newline) refl (lines_are_joined text)
@@ -50,6 +51,7 @@ few_after : (b : ℕ) (text : List ℕ) (t : Bool) → length (lines text) ≤ l
 few_after b text true few = omega (arith, few)
 few_after b text false few = omega (arith, few, few_onto_first b (lines text))
 
+-- a text has at most as many lines as bytes
 pub lines_are_few : (text : List ℕ) → length (lines text) ≤ length text
 lines_are_few [] = omega arith
 lines_are_few (b ∷ text) = few_after b text (eqb b newline) (lines_are_few text)
@@ -66,6 +68,7 @@ lines_of_made whole more made =
     ∙ lines_of_cut (line made.0 ++ more) (join_with_byte 32 made.0) more (line_is_cut made.0 more made.1)
     ∙ ap (λ (w : List ℕ). w ∷ lines more) (sym made.2)
 
+-- lines of words, put one after another, are the lines of what they make
 pub lines_of_joined : (all : List (List ℕ)) → All Made all → lines (joined all) ≡ all
 lines_of_joined [] made = refl
 lines_of_joined (whole ∷ rest) made =
@@ -106,6 +109,7 @@ lines_of_text file is = lines_of_joined (file_lines file) (file_is_made file is)
 abbrev Outcome : Type 0
 Outcome = Result FileLists JournalError
 
+-- an answer Ok tells a file that has a text, and this is its text
 pub read_is_a_journal : (text : List ℕ) (r : Outcome) → Gives (λ (file : FileLists). file) r (file_in (lines text)) → IfOk r (λ file. IsFile file × (text ≡ journal_text file))
 unfolding journal_text
 read_is_a_journal text (Ok file) gives =
@@ -125,6 +129,7 @@ given_file (Err journal.BadVersion) file read gives is = absurd (apart file (sym
     apart : (file : FileLists) → done file ≡ fails journal.BadVersion → ⊥
     apart file e = cc
 
+-- at the text of a file the answer is this file, or that memory is wanted
 pub journal_is_read : (text : List ℕ) (r : Outcome) (file : FileLists) → Gives (λ (file : FileLists). file) r (file_in (lines text)) → IsFile file → text ≡ journal_text file
     → (r ≡ Ok file) ⊎ (r ≡ Err journal.Memory)
 journal_is_read text r file gives is same =
@@ -134,9 +139,11 @@ journal_is_read text r file gives is same =
 pub given_error : (r : Outcome) (read : Outcome) (k : ℕ) → Gives (λ (file : FileLists). file) r read → r ≡ Err (journal.BadLine k) → read ≡ fails (journal.BadLine k)
 given_error r read k gives is = subst (λ (x : Outcome). Gives (λ (file : FileLists). file) x read) is gives
 
+-- where the call answers BadVersion, reading does
 pub given_version : (r : Outcome) (read : Outcome) → Gives (λ (file : FileLists). file) r read → r ≡ Err journal.BadVersion → read ≡ fails journal.BadVersion
 given_version r read gives is = subst (λ (x : Outcome). Gives (λ (file : FileLists). file) x read) is gives
 
+-- the line that reading stops at is the first that is not of the format
 pub bad_line_is_the_first : (text : List ℕ) (k : ℕ) → length text < 2 ^ 32 → file_in (lines text) ≡ fails (journal.BadLine k) → IsFirstBadLine text k
 bad_line_is_the_first text k few e =
     let begins = bad_begins_file (lines text) k (omega (arith, few, lines_are_few text)) e in
@@ -158,16 +165,19 @@ first_of : (all : List (List ℕ)) (l : List ℕ) → take 1 all ≡ l ∷ [] �
 first_of [] l e = absurd cc
 first_of (m ∷ all) l e = let same : m ≡ l = cc in (all, ap (λ (x : List ℕ). x ∷ all) same)
 
+-- where reading answers BadVersion, the text tells another version
 pub bad_version_is_another : (text : List ℕ) → file_in (lines text) ≡ fails journal.BadVersion → HasOtherVersion text
 bad_version_is_another text e =
     let other = bad_version_is_other (lines text) e in
     record { digits = other.digits; number = other.number; other = other.other; told = ap (take 1) other.first }
 
+-- where the text tells another version, reading answers BadVersion
 pub another_is_bad_version : (text : List ℕ) → HasOtherVersion text → file_in (lines text) ≡ fails journal.BadVersion
 another_is_bad_version text o =
     let first = first_of (lines text) (line (codes "strobe" ∷ codes "journal" ∷ o.digits ∷ [])) o.told in
     other_is_bad_version (lines text) (record { digits = o.digits; rest = first.0; number = o.number; other = o.other; first = first.1 })
 
+-- where reading answers BadVersion, the call does, or it answers that memory is wanted
 pub given_other : (r : Outcome) (read : Outcome) → Gives (λ (file : FileLists). file) r read → read ≡ fails journal.BadVersion → (r ≡ Err journal.BadVersion) ⊎ (r ≡ Err journal.Memory)
 given_other (Ok file) read gives is = absurd (apart file (sym gives ∙ is))
   where
@@ -180,6 +190,7 @@ given_other (Err (journal.BadLine k)) read gives is = absurd (apart k (sym gives
     apart k e = cc
 given_other (Err journal.BadVersion) read gives is = inl refl
 
+-- no text has both a bad line and another version for its answer
 pub line_is_no_version : (read : Outcome) (k : ℕ) → read ≡ fails (journal.BadLine k) → read ≡ fails journal.BadVersion → ⊥
 line_is_no_version read k a b = apart k (sym a ∙ b)
   where

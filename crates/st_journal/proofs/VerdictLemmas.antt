@@ -25,6 +25,7 @@ use Rattle.st_journal.proofs.WrittenLemmas.{half_is_word}
 
 -- ---- numbers of 32 bits, and places
 
+-- a word that is read as a number of 32 bits is its decimal text
 pub half_is_written : (word : List ℕ) (n : ℕ) → half_in word ≡ Some n → (word ≡ decimal n) × IsHalf n
 unfolding half_in
 half_is_written word n e =
@@ -37,6 +38,7 @@ half_is_written word n e =
     and_then_some (Some k) n e = e
     and_then_some None n e = absurd cc
 
+-- the decimal text of a number of 32 bits is read as this number
 pub half_is_read : (n : ℕ) → IsHalf n → half_in (decimal n) ≡ Some n
 unfolding half_in
 half_is_read n fits = rw (written_is_read n (half_is_word n fits), below_again (2 ^ 32) n fits) refl
@@ -162,6 +164,7 @@ plain_verdict value = Some (verdict.Plain value)
 abbrev lost_at : ℕ → Option Verdict
 lost_at obj = Some (verdict.Abandoned obj)
 
+-- words that are read as a verdict are the words of this verdict, and its numbers fit
 pub verdict_is_written : (words : List (List ℕ)) (v : Verdict) → verdict_in words ≡ Some v → Told words v
 unfolding verdict_in
 verdict_is_written [] v e = absurd cc
@@ -186,6 +189,7 @@ verdict_is_written (head ∷ kind ∷ place ∷ []) v e =
     subst (Told (head ∷ kind ∷ place ∷ [])) is (ap (λ (h : List ℕ). h ∷ kind ∷ place ∷ []) (words_same head (codes "fault") t.0) ∙ told.0, told.1)
 verdict_is_written (a ∷ b ∷ c ∷ d ∷ more) v e = absurd cc
 
+-- the words of a verdict whose numbers fit are read as this verdict
 pub verdict_is_read : (v : Verdict) → FitsVerdict v → verdict_in (parts_of v) ≡ Some v
 unfolding verdict_in plain_in fault_in
 verdict_is_read (verdict.Plain plain.Holds) fits = refl
@@ -204,6 +208,7 @@ three_plain : (kind : List ℕ) (place : Site) → IsPlain kind → FitsPlace pl
 three_plain kind place plain fits =
     All-cons IsPlain (codes "fault") (kind ∷ place_text place ∷ []) refl (All-cons IsPlain kind (place_text place ∷ []) plain (one_plain (place_text place) (place_is_plain place fits)))
 
+-- the words of a verdict whose numbers fit have no blank and no newline in them
 pub verdict_is_plain : (v : Verdict) → FitsVerdict v → All IsPlain (parts_of v)
 verdict_is_plain (verdict.Plain plain.Holds) fits = one_plain (codes "holds") refl
 verdict_is_plain (verdict.Plain plain.Fails) fits = one_plain (codes "fails") refl

@@ -33,6 +33,7 @@ none_with_a_bad_one : (words : List (List ℕ)) (word : List ℕ) (rest : List (
 none_with_a_bad_one [] word rest bad = rw bad refl
 none_with_a_bad_one (first ∷ words) word rest bad = rw (none_with_a_bad_one words word rest bad) (none_after (number_in first))
 
+-- the numbers that the first words write, with the number that the next word writes, are those of one word more
 pub next_number_is_read : (words : List (Bor (List ℕ))) (i : ℕ) (d : Bor (List ℕ)) (number : ℕ) (old now : List ℕ) → i < length words
     → number_in (get_or words i d).now ≡ Some number
     → numbers_in (seen (take i words)) ≡ Some old → now ≡ old ++ number ∷ []
@@ -42,6 +43,7 @@ next_number_is_read words i d number old now within reads so_far is =
     ∙ ap numbers_in (map-append (λ (word : Bor (List ℕ)). word.now) (take i words) (get_or words i d ∷ []))
     ∙ numbers_and_one (seen (take i words)) (get_or words i d).now old number so_far reads ∙ ap Some (sym is)
 
+-- where one word is no number, the words together are no numbers
 pub bad_number_spoils_all : (words : List (Bor (List ℕ))) (i : ℕ) (d : Bor (List ℕ)) → i < length words
     → number_in (get_or words i d).now ≡ None → numbers_in (seen words) ≡ None
 bad_number_spoils_all words i d within bad =

@@ -22,11 +22,13 @@ one_piece_more f xs i d old so_far now within before after =
     (ap (λ (t : List ℕ). flat_map f (take i xs) ++ t) (sym (append-nil (f (get_or xs i d)))) ∙ sym (flat_map-append f (take i xs) (get_or xs i d ∷ []))
     ∙ sym (ap (flat_map f) (take_more xs i d within)))
 
+-- a blank and the next number make the text of one number more
 pub one_number_more : (numbers : List ℕ) (i d : ℕ) (old so_far now : List ℕ) → i < length numbers
     → so_far ≡ old ++ spaced (take i numbers) → now ≡ (so_far ++ 32 ∷ []) ++ decimal (get_or numbers i d) → now ≡ old ++ spaced (take (i + 1) numbers)
 one_number_more numbers i d old so_far now within before after =
     one_piece_more (λ number. 32 ∷ decimal number) numbers i d old so_far now within before (after ∙ append_assoc so_far (32 ∷ []) (decimal (get_or numbers i d)))
 
+-- the line of the next verdict makes the text of one verdict more
 pub one_verdict_more : (verdicts : List Verdict) (i : ℕ) (d : Verdict) (old so_far now : List ℕ) → i < length verdicts
     → so_far ≡ old ++ flat_map verdict_part (enumerate_from 1 (take i verdicts)) → now ≡ so_far ++ verdict_part (i + 1, get_or verdicts i d)
     → now ≡ old ++ flat_map verdict_part (enumerate_from 1 (take (i + 1) verdicts))
@@ -50,6 +52,7 @@ joined_is_spaced : (tag : List ℕ) (numbers : List ℕ) → join_with_byte 32 (
 joined_is_spaced tag [] = sym (append-nil tag)
 joined_is_spaced tag (n ∷ numbers) = ap (λ (t : List ℕ). tag ++ 32 ∷ t) (joined_is_spaced (decimal n) numbers)
 
+-- a tag, numbers each after a blank, and a newline make the line of the tag and all these numbers
 pub line_is_spaced : (old tag numbers more : List ℕ) → (((old ++ tag) ++ spaced numbers) ++ spaced more) ++ newline ∷ [] ≡ old ++ line (numbered tag (numbers ++ more))
 line_is_spaced old tag numbers more =
     let both : spaced (numbers ++ more) ≡ spaced numbers ++ spaced more = flat_map-append (λ number. 32 ∷ decimal number) numbers more in
@@ -62,6 +65,7 @@ flat_of_lines : {X : Type 0} (f : X → List ℕ) (xs : List X) → flat_map (λ
 flat_of_lines f [] = refl
 flat_of_lines f (x ∷ xs) = ap (λ (t : List ℕ). f x ++ t) (flat_of_lines f xs)
 
+-- two lines, the lines of the events and of the verdicts, and the counts, one put after another, are the text of the file
 pub text_is_put : (file : FileLists) → ((([] ++ (line (version_words VERSION) ++ line (sizes_words file.sizes))) ++ flat_map event_part file.events)
     ++ flat_map verdict_part (enumerate_from 1 file.verdicts)) ++ line (end_words file) ≡ journal_text file
 unfolding journal_text file_lines

@@ -19,6 +19,7 @@ byte_is_word n fits = omega arith
 short_is_word : (n : ℕ) → IsShort n → IsWord n
 short_is_word n fits = omega arith
 
+-- a number of 32 bits is one of 64 bits
 pub half_is_word : (n : ℕ) → IsHalf n → IsWord n
 half_is_word n fits = omega arith
 
@@ -29,6 +30,7 @@ flag_is_word false = omega arith
 count_is_word : (n : ℕ) → n ≤ MOST_ARGS → IsWord n
 count_is_word n few = omega arith
 
+-- two numbers of 64 bits each are such numbers together
 abbrev pub words2 : (a b : ℕ) → IsWord a → IsWord b → All IsWord (a ∷ b ∷ [])
 words2 a b fa fb = All-cons IsWord a (b ∷ []) fa (All-cons IsWord b [] fb (All-nil IsWord))
 
@@ -63,6 +65,7 @@ launch_words m site number args fits =
 retire_words : (m number : ℕ) → FitsFields (Retire m number) → All IsWord (m ∷ number ∷ [])
 retire_words m number fits = words2 m number (byte_is_word m fits.0) (half_is_word number fits.1)
 
+-- the words of an event whose numbers fit have no blank and no newline in them
 pub event_is_plain : (e : Event) → FitsFields e → All IsPlain (event_words e)
 event_is_plain (New m obj class) fits = numbered_are_plain (codes "N") (m ∷ obj ∷ class ∷ []) refl (new_words m obj class fits)
 event_is_plain (Load m obj field value) fits = numbered_are_plain (codes "L") (m ∷ obj ∷ field ∷ value ∷ []) refl (load_words m obj field value fits)
@@ -112,6 +115,7 @@ args_again count (a ∷ b ∷ []) room few unused = absurd (omega (arith, room))
 args_again count (a ∷ b ∷ c ∷ []) room few unused = absurd (omega (arith, room))
 args_again count (a ∷ b ∷ c ∷ d ∷ x ∷ more) room few unused = absurd (omega (arith, room))
 
+-- the words of an event whose numbers fit are read as this event
 pub event_is_read : (e : Event) → FitsFields e → row_in (event_words e) ≡ Some (row.Event e)
 unfolding row_in numbered_row_in event_in new_in load_in store_in cas_in launch_in retire_in
 event_is_read (New m obj class) fits =

@@ -15,10 +15,11 @@ pub record FileLists : Type 0 where
   pub events : List Event
   pub verdicts : List Verdict
 
--- the byte between two words, and the byte at a line's end
+-- the byte between two words
 abbrev pub blank : ℕ
 blank = 32
 
+-- the byte at a line's end
 abbrev pub newline : ℕ
 newline = 10
 
@@ -76,6 +77,7 @@ pub record HasUsedWords (args : Args) : Type 0 where
   pub count : args.count ≤ MOST_ARGS
   pub unused : list_all (λ word. word == 0) (drop args.count args.words) ≡ true
 
+-- the same of an event: it is asked of a launch alone
 abbrev pub HasUsedArgs : Event → Type 0
 HasUsedArgs (New m obj class) = Unit {0}
 HasUsedArgs (Load m obj field value) = Unit {0}
@@ -84,16 +86,19 @@ HasUsedArgs (Cas m obj field expect value done) = Unit {0}
 HasUsedArgs (Launch m site number args) = HasUsedWords args
 HasUsedArgs (Retire m number) = Unit {0}
 
--- numbers of 8, 16, 32 and 64 bits
+-- a number of 8 bits
 abbrev pub IsByte : ℕ → Type 0
 IsByte n = n < 2 ^ 8
 
+-- a number of 16 bits
 abbrev pub IsShort : ℕ → Type 0
 IsShort n = n < 2 ^ 16
 
+-- a number of 32 bits
 abbrev pub IsHalf : ℕ → Type 0
 IsHalf n = n < 2 ^ 32
 
+-- a number of 64 bits
 abbrev pub IsWord : ℕ → Type 0
 IsWord n = n < 2 ^ 64
 
@@ -112,10 +117,11 @@ FitsFields (Cas m obj field expect value done) = IsByte m × IsHalf obj × IsByt
 FitsFields (Launch m site number args) = IsByte m × IsHalf number × IsShort site × HasArgWords args
 FitsFields (Retire m number) = IsByte m × IsHalf number
 
--- the same of a place and of a verdict
+-- each number of a place fits the type of its field
 abbrev pub FitsPlace : Site → Type 0
 FitsPlace place = IsHalf place.line × IsHalf place.column
 
+-- each number of a verdict fits the type of its field
 abbrev pub FitsVerdict : Verdict → Type 0
 FitsVerdict (verdict.Plain plain.Holds) = Unit {0}
 FitsVerdict (verdict.Plain plain.Fails) = Unit {0}

@@ -27,13 +27,15 @@ Gives view (Err journal.Memory) read = Unit {0}
 Gives view (Err (journal.BadLine line)) read = read ≡ Err (journal.BadLine line)
 Gives view (Err journal.BadVersion) read = read ≡ Err journal.BadVersion
 
--- numbers of 8, 16 and 32 bits
+-- the number, where it has 8 bits
 abbrev pub byte : ℕ → Option ℕ
 byte n = below (2 ^ 8) n
 
+-- the number, where it has 16 bits
 abbrev pub short : ℕ → Option ℕ
 short n = below (2 ^ 16) n
 
+-- the number, where it has 32 bits
 abbrev pub half : ℕ → Option ℕ
 half n = below (2 ^ 32) n
 
@@ -41,6 +43,7 @@ half n = below (2 ^ 32) n
 abbrev pub truth : ℕ → Option Bool
 truth n = if n == 1 then Some true else (if n == 0 then Some false else None)
 
+-- the event that the numbers after N tell: thread, object, class
 unfoldable pub new_in : List ℕ → Option Event
 new_in (m ∷ obj ∷ class ∷ []) = do
   m ← byte m
@@ -49,6 +52,7 @@ new_in (m ∷ obj ∷ class ∷ []) = do
   Some (New m obj class)
 new_in _ = None
 
+-- the event that the numbers after L tell: thread, object, field, value
 unfoldable pub load_in : List ℕ → Option Event
 load_in (m ∷ obj ∷ field ∷ value ∷ []) = do
   m ← byte m
@@ -57,6 +61,7 @@ load_in (m ∷ obj ∷ field ∷ value ∷ []) = do
   Some (Load m obj field value)
 load_in _ = None
 
+-- the event that the numbers after S tell: thread, object, field, value
 unfoldable pub store_in : List ℕ → Option Event
 store_in (m ∷ obj ∷ field ∷ value ∷ []) = do
   m ← byte m
@@ -65,6 +70,7 @@ store_in (m ∷ obj ∷ field ∷ value ∷ []) = do
   Some (Store m obj field value)
 store_in _ = None
 
+-- the event that the numbers after C tell: thread, object, field, what was expected, value, and 1 where it was done
 unfoldable pub cas_in : List ℕ → Option Event
 cas_in (m ∷ obj ∷ field ∷ expect ∷ value ∷ done ∷ []) = do
   m ← byte m
@@ -89,6 +95,7 @@ args_in count words = do
   all ← padded words
   if count == length words then Some (record { count = count; words = all }) else None
 
+-- the event that the numbers after K tell: thread, check, site, how many arguments, and these
 unfoldable pub launch_in : List ℕ → Option Event
 launch_in (m ∷ number ∷ site ∷ count ∷ words) = do
   m ← byte m
@@ -98,6 +105,7 @@ launch_in (m ∷ number ∷ site ∷ count ∷ words) = do
   Some (Launch m site number args)
 launch_in _ = None
 
+-- the event that the numbers after R tell: thread and check
 unfoldable pub retire_in : List ℕ → Option Event
 retire_in (m ∷ number ∷ []) = do
   m ← byte m
@@ -150,6 +158,7 @@ verdict_in (head ∷ kind ∷ place ∷ []) =
     if bytes_eq head (codes "fault") then place_in place >>= (λ place. fault_in kind place >>= λ value. Some (verdict.Plain value)) else None
 verdict_in _ = None
 
+-- the row that the words after V tell: the check's number, and its verdict
 unfoldable pub verdict_row_in : List (List ℕ) → Option Row
 verdict_row_in (number ∷ words) = do
   number ← half_in number
@@ -157,6 +166,7 @@ verdict_row_in (number ∷ words) = do
   Some (row.Verdict number verdict)
 verdict_row_in [] = None
 
+-- the row that the numbers after end tell: how many events and how many verdicts
 unfoldable pub end_row_in : List ℕ → Option Row
 end_row_in (events ∷ verdicts ∷ []) = do
   events ← half events
@@ -202,10 +212,12 @@ abbrev pub before_end : List ℕ × List ℕ → Option (List ℕ)
 before_end (line, []) = Some line
 before_end (line, byte ∷ rest) = None
 
+-- a line that has an end, with the lines after it; the line of this number is bad where it has none
 abbrev pub with_rest : ℕ → Option (List ℕ) → List (List ℕ) → Result (List ℕ × List (List ℕ)) JournalError
 with_rest number None lines = Err (journal.BadLine number)
 with_rest number (Some line) lines = Ok (line, lines)
 
+-- what a line says before its newline; nothing where it has no newline, or where something stands behind it
 unfoldable pub content : List ℕ → Option (List ℕ)
 content line = cut newline line >>= before_end
 

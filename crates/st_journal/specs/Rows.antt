@@ -19,12 +19,15 @@ pub record RowLists : Type 0 where
   pub events : List Event
   pub verdicts : List Verdict
 
+-- the rows before the first event and verdict
 abbrev pub no_rows : RowLists
 no_rows = record { events = []; verdicts = [] }
 
+-- the rows with this event as the last one
 abbrev pub with_event : RowLists → Event → RowLists
 with_event rows event = record { events = rows.events ++ event ∷ []; verdicts = rows.verdicts }
 
+-- the rows with this verdict as the last one
 abbrev pub with_verdict : RowLists → Verdict → RowLists
 with_verdict rows verdict = record { events = rows.events; verdicts = rows.verdicts ++ verdict ∷ [] }
 
@@ -63,8 +66,8 @@ rows_in number rows [] = Err (journal.BadLine number)
 rows_in number rows (line ∷ lines) =
     after_step (content line >>= line_step rows) number lines (λ more. rows_in (number + 1) more lines)
 
--- one step after another, up to the first error
 infixl 10 ◌>=>◌
+-- one step after another, up to the first error
 abbrev pub ◌>=>◌ : {A B : Type 0} → Result A JournalError → (A → Result B JournalError) → Result B JournalError
 (Ok x) >=> f = f x
 (Err e) >=> f = Err e

@@ -9,9 +9,10 @@ use Rattle.st_journal.specs.Terms.{Event, Verdict}
 abbrev pub spaced : List ℕ → List ℕ
 spaced numbers = flat_map (λ number. blank ∷ decimal number) numbers
 
--- the line of an event, and that of a verdict with its number
+-- the line of an event
 abbrev pub event_part : Event → List ℕ
 event_part event = line (event_words event)
 
+-- the line of a verdict with its number
 abbrev pub verdict_part : ℕ × Verdict → List ℕ
 verdict_part numbered_verdict = line (verdict_words numbered_verdict)

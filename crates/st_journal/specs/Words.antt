@@ -6,8 +6,8 @@ use Rattle.std.specs.Str.Parse.{digits_value}
 use Rattle.st_journal.specs.declared.errors.LineFault.{LineFault}
 use Rattle.st_journal.specs.declared.errors.LineFault.TheVariants as fault
 
--- one step after another, where none has no value
 infixl 10 ◌>>=◌
+-- one step after another, where none has no value
 abbrev pub ◌>>=◌ : {A B : Type 0} → Option A → (A → Option B) → Option B
 (Some x) >>= f = f x
 None >>= f = None

@@ -30,6 +30,7 @@ own_of_more : (thread : ℕ) (journal : List Event) (i : ℕ) (d : Event) → i 
 own_of_more thread journal i d within =
     ap (own_events thread) (take_more journal i d within) ∙ filter-append (is_own thread) (take i journal) (get_or journal i d ∷ [])
 
+-- an event of another thread, or a Retire, adds nothing to the thread's own events
 pub another_adds_nothing : (thread : ℕ) (journal : List Event) (i : ℕ) (d : Event) → i < length journal → is_own thread (get_or journal i d) ≡ false
     → own_events thread (take (i + 1) journal) ≡ own_events thread (take i journal)
 another_adds_nothing thread journal i d within other =
@@ -37,6 +38,7 @@ another_adds_nothing thread journal i d within other =
     ∙ ap (λ (es : List Event). own_events thread (take i journal) ++ es) (own_of_another thread (get_or journal i d) other)
     ∙ append-nil (own_events thread (take i journal))
 
+-- an event of the thread comes behind its own events so far
 pub an_own_one_is_added : (thread : ℕ) (journal : List Event) (i : ℕ) (d : Event) → i < length journal → is_own thread (get_or journal i d) ≡ true
     → own_events thread (take (i + 1) journal) ≡ own_events thread (take i journal) ++ get_or journal i d ∷ []
 an_own_one_is_added thread journal i d within own =
@@ -55,6 +57,7 @@ checks_of_more thread places verdicts journal i d own within is_mine counted =
     ∙ filter_map-append (check_in places verdicts) (enumerate_from 1 so_far) ((length so_far + 1, get_or journal i d) ∷ [])
     ∙ ap (λ (n : ℕ). checks_of thread places verdicts (take i journal) ++ filter_map (check_in places verdicts) ((n, get_or journal i d) ∷ [])) (sym counted)
 
+-- a launch of the thread, with its place and verdict, comes behind the thread's checks so far
 pub a_check_is_added : (thread : ℕ) (places : List Site) (verdicts : List Verdict) (journal : List Event) (i : ℕ) (d : Event) (own : ℕ) (check : LaunchedCheck) (old now : List LaunchedCheck)
     → i < length journal → is_own thread (get_or journal i d) ≡ true → own ≡ length (own_events thread (take i journal)) + 1
     → check_in places verdicts (own, get_or journal i d) ≡ Some check → old ≡ checks_of thread places verdicts (take i journal) → now ≡ old ++ check ∷ []
@@ -63,6 +66,7 @@ a_check_is_added thread places verdicts journal i d own check old now within is_
     is ∙ ap (λ (cs : List LaunchedCheck). cs ++ check ∷ []) so_far
     ∙ sym (checks_of_more thread places verdicts journal i d own within is_mine counted ∙ rw launches refl)
 
+-- an event of the thread that launches no check leaves the thread's checks as they were
 pub no_check_is_added : (thread : ℕ) (places : List Site) (verdicts : List Verdict) (journal : List Event) (i : ℕ) (d : Event) (own : ℕ) (now : List LaunchedCheck)
     → i < length journal → is_own thread (get_or journal i d) ≡ true → own ≡ length (own_events thread (take i journal)) + 1
     → check_in places verdicts (own, get_or journal i d) ≡ None → now ≡ checks_of thread places verdicts (take i journal)
@@ -78,10 +82,12 @@ an_own_one_counts thread journal i d own within mine counted =
     ap (λ (n : ℕ). n + 1) counted
     ∙ sym (ap length (an_own_one_is_added thread journal i d within mine) ∙ length-append (own_events thread (take i journal)) (get_or journal i d ∷ []))
 
+-- an event of another thread leaves the count of the thread's own events as it was
 pub another_counts_nothing : (thread : ℕ) (journal : List Event) (i : ℕ) (d : Event) (own : ℕ) → i < length journal → is_own thread (get_or journal i d) ≡ false
     → own ≡ length (own_events thread (take i journal)) → own ≡ length (own_events thread (take (i + 1) journal))
 another_counts_nothing thread journal i d own within other counted = counted ∙ sym (ap length (another_adds_nothing thread journal i d within other))
 
+-- an event of another thread leaves the thread's checks as they were
 pub another_adds_no_check : (thread : ℕ) (places : List Site) (verdicts : List Verdict) (journal : List Event) (i : ℕ) (d : Event) (now : List LaunchedCheck)
     → i < length journal → is_own thread (get_or journal i d) ≡ false → now ≡ checks_of thread places verdicts (take i journal)
     → now ≡ checks_of thread places verdicts (take (i + 1) journal)

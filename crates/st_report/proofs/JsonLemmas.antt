@@ -21,14 +21,17 @@ use Rattle.st_report.specs.Counts.{is_holds, is_fails, is_other_verdict}
 use Rattle.st_report.specs.Json.{before_comma, check_items, checks_before_commas, joined, json_line, check_json, check_object, count_json, count_object, name_text, thread_json, thread_object}
 use Rattle.st_texts.specs.Texts.{verdict_text, end_text}
 
+-- the value of a launch is written as its text in the report
 pub check_text : (thread : List ℕ) (check : LaunchedCheck) → compact_text (check_object check.event check.place (name_text thread) (verdict_text check.verdict)) ≡ check_json thread check
 unfolding serde_json_on_literals
 check_text thread check = refl
 
+-- the value of a thread's end is written as its text in the report
 pub thread_text : (thread : List ℕ) (end : End) → compact_text (thread_object (end_text end) (name_text thread)) ≡ thread_json (thread, end)
 unfolding serde_json_on_literals
 thread_text thread end = refl
 
+-- the value of the counts is written as their text in the report
 pub count_text : (verdicts : List Verdict)
     → compact_text (count_object (length verdicts) (count_by is_fails verdicts) (count_by is_holds verdicts) (count_by is_other_verdict verdicts)) ≡ count_json verdicts
 unfolding serde_json_on_literals
@@ -38,6 +41,7 @@ count_text verdicts = refl
 pub name_is_text : (name : List ℕ) → IsUtf8 name → name ≡ name_text name
 name_is_text name text = rw (is_utf8-from_IsUtf8 name text) refl
 
+-- bytes that are no UTF-8 are told as an empty name
 pub name_is_no_text : (name : List ℕ) → (IsUtf8 name → ⊥) → [] ≡ name_text name
 name_is_no_text name never = go (is_utf8 name) (IsUtf8-from_is_utf8 name)
   where

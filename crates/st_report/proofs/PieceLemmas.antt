@@ -19,6 +19,7 @@ one_piece_more f xs x old so_far now before after =
     after ∙ ap (λ (t : List ℕ). t ++ f x) before ∙ append_assoc old (flat_map f xs) (f x)
     ∙ ap (λ (t : List ℕ). old ++ t) (ap (λ (t : List ℕ). flat_map f xs ++ t) (sym (append-nil (f x))) ∙ sym (flat_map-append f xs (x ∷ [])))
 
+-- the piece of the next element makes the text of one element more
 pub next_piece : {X : Type 0} (f : X → List ℕ) (xs : List X) (i : ℕ) (d : X) (old so_far now : List ℕ) → i < length xs
     → so_far ≡ old ++ flat_map f (take i xs) → now ≡ so_far ++ f (get_or xs i d) → now ≡ old ++ flat_map f (take (i + 1) xs)
 next_piece f xs i d old so_far now within before after =

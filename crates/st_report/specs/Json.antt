@@ -19,16 +19,18 @@ use Rattle.st_texts.specs.Texts.{verdict_text, end_text}
 abbrev pub name_text : List ℕ → List ℕ
 name_text name = if is_utf8 name then name else []
 
--- the objects of a launch, of a thread's end and of the counts, as values of serde_json
+-- the next three are values of serde_json: a launch with its place, its count among the thread's events, the thread's name and the verdict
 abbrev pub check_object : ℕ → Site → List ℕ → List ℕ → Data
 check_object event place thread verdict = object
     (member (codes "column") (number (unsigned place.column)) (member (codes "event") (number (unsigned event))
     (member (codes "line") (number (unsigned place.line)) (member (codes "thread") (string thread)
     (member (codes "verdict") (string verdict) no_members)))))
 
+-- the end of a thread and its name
 abbrev pub thread_object : List ℕ → List ℕ → Data
 thread_object end name = object (member (codes "end") (string end) (member (codes "name") (string name) no_members))
 
+-- how many checks there are, and how many of them fail, hold, or have another verdict
 abbrev pub count_object : ℕ → ℕ → ℕ → ℕ → Data
 count_object checks fails holds other = object
     (member (codes "checks") (number (unsigned checks)) (member (codes "fails") (number (unsigned fails))
@@ -78,12 +80,14 @@ json_of_parts threads places verdicts journal ends =
 unfoldable pub json_text : List (List ℕ) → List Site → RanLists → List ℕ
 json_text threads places ran = json_of_parts threads places ran.verdicts ran.journal ran.ends
 
--- for private clauses: an item with a comma behind it, the checks of a thread so, and the end of a thread
+-- the next three are for private clauses: an item with a comma behind it
 abbrev pub before_comma : List ℕ → List ℕ
 before_comma item = item ++ codes ","
 
+-- the launches of a thread, each with a comma behind it
 abbrev pub checks_before_commas : List ℕ → List LaunchedCheck → List ℕ
 checks_before_commas thread checks = flat_map (λ check. before_comma (check_json thread check)) checks
 
+-- the end of a thread, with a comma behind it
 abbrev pub end_before_comma : List ℕ × End → List ℕ
 end_before_comma thread = before_comma (thread_json thread)

@@ -16,13 +16,15 @@ flag name = record (new_rule name) { long = Some name; action = Some SetTrue }
 abbrev pub word : Text → Rule
 word name = record (new_rule name) { required = true }
 
--- an option, a flag, a command more
+-- an option more
 abbrev pub with_option : Text → App → App
 with_option name a = with_rule a (option name)
 
+-- a flag more
 abbrev pub with_flag : Text → App → App
 with_flag name a = with_rule a (flag name)
 
+-- a command more
 abbrev pub with_command : App → App → App
 with_command command a = with_subcommand a command.top
 
