@@ -55,6 +55,7 @@ pub data Part : Type 0 where
   primary : Part
   call_tail : Part
 
+-- what a rule of the chart asks for, one after another
 abbrev pub Symbols : Type 0
 Symbols = List (Symbol Sort Part)
 
@@ -66,12 +67,15 @@ at_sort k ss = record { sorts = k ∷ []; symbols = ss }
 abbrev pub only : Symbols → Choices Sort Part
 only ss = record { told = []; other = Some ss }
 
+-- one of these, as the next token tells; at any other token the part goes wrong
 abbrev pub told : List (Told Sort Part) → Choices Sort Part
 told rows = record { told = rows; other = None }
 
+-- one of these, or this one at any other token
 abbrev pub or_else : List (Told Sort Part) → Symbols → Choices Sort Part
 or_else rows ss = record { told = rows; other = Some ss }
 
+-- one of these, or nothing at any other token
 abbrev pub or_nothing : List (Told Sort Part) → Choices Sort Part
 or_nothing rows = or_else rows []
 
@@ -87,6 +91,7 @@ in_blocks =
     ∷ sort.Semicolon ∷ sort.Colon ∷ sort.Comma ∷ sort.Dot ∷ sort.Assign ∷ sort.Equal ∷ sort.NotEqual ∷ sort.Less ∷ sort.LessEq ∷ sort.Greater ∷ sort.GreaterEq
     ∷ sort.Plus ∷ sort.Minus ∷ sort.Star ∷ sort.Slash ∷ sort.Percent ∷ sort.Not ∷ sort.Both ∷ sort.Either ∷ sort.Question ∷ []
 
+-- what each part may be
 abbrev pub rules : Part → Choices Sort Part
 rules program = only (part classes ∷ part shared_block ∷ part preds ∷ part procs ∷ part threads ∷ [])
 rules classes = or_nothing (at_sort sort.Class (part class ∷ part classes ∷ []) ∷ [])
@@ -154,15 +159,18 @@ rules primary = told
     ∷ [])
 rules call_tail = or_nothing (at_sort sort.OpenParen (token sort.OpenParen ∷ part args ∷ token sort.CloseParen ∷ []) ∷ [])
 
+-- the chart of a source: tokens by their sorts, and the rules
 abbrev pub grammar : Grammar Terminal Sort Part
 grammar = record { sort = λ t. t.sort; same = same_sort; choices = rules }
 
 abbrev nowhere : Site
 nowhere = record { line = 1; column = 1 }
 
+-- a token of a sort, which stands for all tokens of it
 abbrev pub sample : Sort → Terminal
 sample s = record { sort = s; bytes = []; value = pos 0; site = nowhere }
 
+-- short words for each part; none where it may be empty
 abbrev pub words : Part → List Sort
 words class = sort.Class ∷ sort.Name ∷ sort.OpenBrace ∷ sort.CloseBrace ∷ []
 words field = sort.Name ∷ sort.Colon ∷ sort.Int ∷ sort.Semicolon ∷ []
@@ -191,6 +199,7 @@ words other = []
 abbrev after_expr : List (Option Sort)
 after_expr = Some sort.Semicolon ∷ Some sort.CloseParen ∷ Some sort.Comma ∷ Some sort.Colon ∷ []
 
+-- what may stand behind each part, as far as the sample words show it; None is the end
 abbrev pub followers : Part → List (Option Sort)
 followers program = None ∷ []
 followers classes = None ∷ []
@@ -221,6 +230,7 @@ followers args = Some sort.CloseParen ∷ []
 followers args_tail = Some sort.CloseParen ∷ []
 followers other = after_expr
 
+-- the samples by which the chart is tested
 abbrev pub samples : Samples Terminal Sort Part
 samples = record { sample = sample; words = words; followers = followers }
 
@@ -270,5 +280,6 @@ parts postfix = refl
 parts primary = refl
 parts call_tail = refl
 
+-- each part passes the test: whatever has been asked for can be given
 pub checked : IsChecked grammar samples program
 checked = record { same_means = sort_means; same_self = sort_self; sort_of_sample = λ k. refl; parts = parts; ends_there = unfold same_sort in refl }

@@ -71,24 +71,28 @@ whole_of chain.Both = chart.and
 whole_of chain.Sum = chart.sum
 whole_of chain.Product = chart.term
 
+-- the part that is an operand of the chain
 abbrev pub operand_of : Chain → Part
 operand_of chain.Either = chart.and
 operand_of chain.Both = chart.cmp
 operand_of chain.Sum = chart.term
 operand_of chain.Product = chart.unary
 
+-- the part that may follow an operand: an operator, an operand and more, or nothing
 abbrev pub tail_of : Chain → Part
 tail_of chain.Either = chart.or_tail
 tail_of chain.Both = chart.and_tail
 tail_of chain.Sum = chart.sum_tail
 tail_of chain.Product = chart.term_tail
 
+-- a chain is an operand and its tail, whatever comes next
 pub chain_begins : (c : Chain) (s : Sort) → chosen (whole_of c) s ≡ Some (part (operand_of c) ∷ part (tail_of c) ∷ [])
 chain_begins chain.Either s = refl
 chain_begins chain.Both s = refl
 chain_begins chain.Sum s = refl
 chain_begins chain.Product s = refl
 
+-- at an operator of the chain its tail goes on
 pub chain_goes_on : (c : Chain) (s : Sort) (o : Op) → chained c s ≡ Some o → chosen (tail_of c) s ≡ Some (token s ∷ part (operand_of c) ∷ part (tail_of c) ∷ [])
 unfolding same_sort
 chain_goes_on chain.Either sort.Either o e = refl
@@ -100,6 +104,7 @@ chain_goes_on chain.Product sort.Slash o e = refl
 chain_goes_on chain.Product sort.Percent o e = refl
 chain_goes_on _ _ o e = absurd cc
 
+-- at anything else it is empty
 pub chain_ends : (c : Chain) (s : Sort) → chained c s ≡ None → chosen (tail_of c) s ≡ Some []
 unfolding same_sort
 chain_ends chain.Either sort.Either e = absurd cc
@@ -111,6 +116,7 @@ chain_ends chain.Product sort.Slash e = absurd cc
 chain_ends chain.Product sort.Percent e = absurd cc
 chain_ends _ _ e = refl
 
+-- after a sum, a comparison is followed by a second sum
 pub comparison_goes_on : (s : Sort) (o : Op) → compared s ≡ Some o → chosen chart.cmp_tail s ≡ Some (token s ∷ part chart.sum ∷ [])
 unfolding same_sort
 comparison_goes_on sort.Equal o e = refl
@@ -121,6 +127,7 @@ comparison_goes_on sort.Greater o e = refl
 comparison_goes_on sort.GreaterEq o e = refl
 comparison_goes_on _ o e = absurd cc
 
+-- at anything else there is no comparison
 pub comparison_ends : (s : Sort) → compared s ≡ None → chosen chart.cmp_tail s ≡ Some []
 unfolding same_sort
 comparison_ends sort.Equal e = absurd cc

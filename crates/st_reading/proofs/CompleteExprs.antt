@@ -52,6 +52,7 @@ not_closing : (s : Sort) (b : Bool) → same_sort s sort.CloseParen ≡ b → st
 not_closing s false e h = e
 not_closing s true e h = let bad : true ≡ false = sym h ∙ ap starts_expr (sort_means s sort.CloseParen e) in absurd cc
 
+-- a list that begins with an expression is not taken for an empty one
 pub opens_no_list : {ts : List Terminal} (rest : List Terminal) → Words ts → same_sort (next_sort (ts ++ rest)) sort.CloseParen ≡ false
 opens_no_list rest w =
     subst (λ (l : List Terminal). same_sort (next_sort (l ++ rest)) sort.CloseParen ≡ false) w.split (not_closing w.first.sort (same_sort w.first.sort sort.CloseParen) refl w.starts)

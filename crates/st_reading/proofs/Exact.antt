@@ -58,11 +58,13 @@ freely ts = free_within (length ts) (length ts) 0 ts (omega arith) (omega arith)
 
 -- ---- texts of the chart and of the grammar
 
+-- what spells a program is a text of the chart
 pub spelled_is_text : (ts : List Terminal) (tree : Program) → Parses ts tree → IsText grammar chart.program ts
 spelled_is_text ts tree h =
     subst (λ (o : Outcome Program). Final (length ts) (length ts) (part chart.program ∷ []) ts o) (spelled_is_read (length ts) (length ts) h (freely ts))
     (follows_program (length ts) (length ts) ts (freely ts))
 
+-- a text of the chart spells a program
 pub text_is_spelled : (ts : List Terminal) → IsText grammar chart.program ts → (tree : Program) × Parses ts tree
 text_is_spelled ts h = by (free.program (length ts) (length ts) ts) refl (follows_program (length ts) (length ts) ts (freely ts))
   where
@@ -152,12 +154,14 @@ earlier_begins ts m n less b =
 not_before : (ts : List Terminal) (m n : ℕ) → IsFirstFault ts m → IsFirstFault ts n → m < n → ⊥
 not_before ts m n a b less = a.here (omega (arith, b.within)) (earlier_begins ts (suc m) n less b.before)
 
+-- the tokens have at most one first fault
 pub one_index : (ts : List Terminal) (m n : ℕ) → IsFirstFault ts m → IsFirstFault ts n → m ≡ n
 one_index ts m n a b =
     let less : m < n → ⊥ = not_before ts m n a b in
     let more : n < m → ⊥ = not_before ts n m b a in
     omega arith
 
+-- so at most one place of a text is where something unexpected stands
 pub one_place : (text : List ℕ) (tokens : List Token) (a b : Site) → IsUnexpected text tokens a → IsUnexpected text tokens b → a ≡ b
 one_place text tokens a b h k =
     h.place ∙ ap (λ (n : ℕ). place_from text (drop n tokens)) (one_index (terminals_of text tokens) h.index k.index h.fault k.fault) ∙ sym k.place

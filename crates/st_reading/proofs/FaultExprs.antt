@@ -42,6 +42,7 @@ low P plain ts o x us s e =
 pub next_span : {s : Sort} (ts : List Terminal) (t : Terminal) (us : List Terminal) → ts ≡ t ∷ us → Is s t → separates s ≡ false → span ts ≡ suc (span us)
 next_span ts t us e h p = ap span e ∙ span_more t us (is_plain p h)
 
+-- behind words without a separator the next separator is no farther
 pub plain_onward : (d : ℕ) (ws us : List Terminal) → Plain ws → span (ws ++ us) ≤ d → span us ≤ d
 plain_onward d ws us p w = omega (arith, span_after p us)
 
@@ -144,10 +145,12 @@ dot_nothing : chosen chart.field_tail sort.Other ≡ Some []
 unfolding same_sort
 dot_nothing = refl
 
+-- the reader of a dot and a name stops where the chart does
 pub follows_field : (object : Expr) (ts : List Terminal) → Follows (token sort.Dot ∷ token sort.Name ∷ []) ts (r.field_after object ts)
 unfolding r.field_after
 follows_field object ts = follows_expect sort.Dot (token sort.Name ∷ []) ts _ (λ dot us e h. follows_expect sort.Name [] us _ (λ name vs f k. stays vs))
 
+-- nothing is asked of the tokens
 abbrev pub always : List Terminal → Type 0
 always ts = Unit {0}
 
@@ -156,12 +159,14 @@ unfolding r.field_after
 field_sound object t ts = sound_expect sort.Dot (λ ws y. Used Plain ws) (t ∷ ts) _ (λ dot us d. sound_expect sort.Name _ us _
     (λ name vs n. sound_pure _ vs _ (used_sign dot (name ∷ []) (is_plain refl d) (plain_more (is_plain refl n) plain_end))))
 
+-- any number of fields follows the chart's tail of fields
 pub follows_fields : (object : Expr) (ts : List Terminal) → Follows (part chart.field_tail ∷ []) ts (r.fields_after object ts)
 unfolding r.fields_after
 follows_fields object ts =
     follows_turns (is_sort sort.Dot) r.field_after chart.field_tail (λ s. token sort.Dot ∷ token sort.Name ∷ []) always Plain dot_choice dot_ends dot_nothing
     (λ x t us w e. follows_field x (t ∷ us)) field_sound (λ ws us p w. tt) object ts tt
 
+-- so does the reader of a shared variable
 pub follows_shared : (ts : List Terminal) → Follows (token sort.Shared ∷ token sort.Dot ∷ token sort.Name ∷ []) ts (r.shared_field ts)
 unfolding r.shared_field
 follows_shared ts = follows_expect sort.Shared _ ts _ (λ word us e h. follows_expect sort.Dot _ us _ (λ dot vs f k. follows_expect sort.Name [] vs _ (λ name ws g l. stays ws)))

@@ -47,6 +47,7 @@ type_at sort.Bool ts e = type_leaf sort.Bool ts (λ t. types.Bool) e refl refl
 type_at sort.Name ts e = type_leaf sort.Name ts (λ t. types.Class t.bytes t.site) e refl refl
 type_at s ts e = follows_none chart.type ts (ap (chosen chart.type) e)
 
+-- the reader of a colon and a type stops where the chart does
 pub follows_typed : (ts : List Terminal) → Follows (token sort.Colon ∷ part chart.type ∷ []) ts (r.typed ts)
 unfolding r.typed r.type_name
 follows_typed ts = follows_expect sort.Colon (part chart.type ∷ []) ts (λ _. r.type_name) (λ t us e h. type_at (next_sort us) us refl)
@@ -70,6 +71,7 @@ place_at sort.Shared ts e = follows_part chart.place (token sort.Shared ∷ toke
     (λ x us h. follows_fields x us))
 place_at s ts e = place_named ts (ap (λ (x : Sort). same_sort x sort.Shared) e)
 
+-- so does that of a target
 pub follows_place : (ts : List Terminal) → Follows (part chart.place ∷ []) ts (r.place ts)
 unfolding r.place
 follows_place ts = place_at (next_sort ts) ts refl

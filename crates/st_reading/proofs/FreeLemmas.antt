@@ -98,6 +98,7 @@ program_with pred proc thread = do
   finish
   pure (record { classes = classes; shared = shared; preds = preds; procs = procs; threads = threads })
 
+-- the readers with limits of their choice are, at the limits of the language, those of the specs
 pub program_same : r.program ≡ free.program MOST_TOKENS_BETWEEN MOST_OPEN_BRACES
 unfolding r.program free.program program_with
 program_same = ap (λ (p : Reader Pred). program_with p r.proc r.thread) pred_same ∙ ap (λ (p : Reader Proc). program_with (free.pred M B) p r.thread) proc_same ∙ ap

@@ -18,6 +18,7 @@ step n sort.OpenBrace = suc n
 step n sort.CloseBrace = pred n
 step n s = n
 
+-- how many braces are open after these tokens, where so many were before them
 abbrev pub open_after : ℕ → List Terminal → ℕ
 open_after n [] = n
 open_after n (t ∷ ts) = open_after (step n t.sort) ts
@@ -28,13 +29,16 @@ pub data Within (tokens braces : ℕ) : ℕ → List Terminal → Type 0 where
   within_more : {n : ℕ} {t : Terminal} {ts : List Terminal} → span (t ∷ ts) ≤ tokens → step n t.sort ≤ braces → Within tokens braces (step n t.sort) ts
       → Within tokens braces n (t ∷ ts)
 
+-- where the limits are kept, the next separator is near enough
 pub within_span : {tokens braces n : ℕ} {ts : List Terminal} → Within tokens braces n ts → span ts ≤ tokens
 within_span within_end = omega arith
 within_span (within_more a b w) = a
 
+-- after the first token the limits are kept on, with the braces that are open then
 pub within_next : {tokens braces n : ℕ} {t : Terminal} {ts : List Terminal} → Within tokens braces n (t ∷ ts) → (step n t.sort ≤ braces) × Within tokens braces (step n t.sort) ts
 within_next (within_more a b w) = (b, w)
 
+-- so they are after any front
 pub within_after : {tokens braces : ℕ} (ws us : List Terminal) (n : ℕ) → Within tokens braces n (ws ++ us) → Within tokens braces (open_after n ws) us
 within_after [] us n w = w
 within_after (t ∷ ws) us n w = within_after ws us (step n t.sort) (within_next w).1
@@ -43,6 +47,7 @@ within_after (t ∷ ws) us n w = within_after ws us (step n t.sort) (within_next
 pub record Even (ws : List Terminal) : Type 0 where
   pub same : (n : ℕ) → open_after n ws ≡ n
 
+-- after a front that closes what it opens, the same number of braces is open
 pub within_even : {tokens braces : ℕ} {ws : List Terminal} {n : ℕ} (us : List Terminal) → Even ws → Within tokens braces n (ws ++ us) → Within tokens braces n us
 within_even {tokens = tokens} {braces = braces} {ws = ws} {n = n} us e w = subst (λ (m : ℕ). Within tokens braces m us) (e.same n) (within_after ws us n w)
 
@@ -50,9 +55,11 @@ open_append : (ws us : List Terminal) (n : ℕ) → open_after n (ws ++ us) ≡ 
 open_append [] us n = refl
 open_append (t ∷ ws) us n = open_append ws us (step n t.sort)
 
+-- no tokens open no brace
 pub even_end : Even []
 even_end = record { same = λ n. refl }
 
+-- two lists that close what they open do so together
 pub even_append : {ws us : List Terminal} → Even ws → Even us → Even (ws ++ us)
 even_append {ws = ws} {us = us} a b = record { same = λ n. open_append ws us n ∙ b.same (open_after n ws) ∙ a.same n }
 
@@ -61,6 +68,7 @@ plain_step n sort.OpenBrace e = absurd cc
 plain_step n sort.CloseBrace e = absurd cc
 plain_step n s e = refl
 
+-- so does what has no brace in it
 pub even_plain : {ws : List Terminal} → Plain ws → Even ws
 even_plain plain_end = even_end
 even_plain (plain_more {t = t} {ts = ts} e p) = record { same = λ n. ap (λ (m : ℕ). open_after m ts) (plain_step n t.sort e) ∙ (even_plain p).same n }
@@ -69,17 +77,20 @@ even_plain (plain_more {t = t} {ts = ts} e p) = record { same = λ n. ap (λ (m 
 pub even_semicolon : {t : Terminal} {ws : List Terminal} → Is sort.Semicolon t → Even ws → Even (t ∷ ws)
 even_semicolon {ws = ws} h e = record { same = λ n. ap (λ (s : Sort). open_after (step n s) ws) h.same ∙ e.same n }
 
+-- and what stands in a pair of braces, with the pair
 pub even_braces : {opening closing : Terminal} {ws : List Terminal} → Is sort.OpenBrace opening → Even ws → Is sort.CloseBrace closing → Even (opening ∷ ws ++ closing ∷ [])
 even_braces {opening = opening} {closing = closing} {ws = ws} o e c = record {
   same = λ n. ap (λ (s : Sort). open_after (step n s) (ws ++ closing ∷ [])) o.same ∙ open_append ws (closing ∷ []) (suc n) ∙ ap (λ (m : ℕ). open_after m (closing ∷ [])) (e.same (suc n))
       ∙ ap (λ (s : Sort). step (suc n) s) c.same;
 }
 
+-- a type has no separator in it
 pub type_plain : {ts : List Terminal} {k : TypeName} → IsType ts k → Plain ts
 type_plain (g.int h) = plain_more (is_plain refl h) plain_end
 type_plain (g.bool h) = plain_more (is_plain refl h) plain_end
 type_plain (g.class_name h) = plain_more (is_plain refl h) plain_end
 
+-- nor has what stands to the right of `=`
 pub value_plain : {ts : List Terminal} {v : Value} → IsValue ts v → Plain ts
 value_plain (g.of_expr h) = (expr_words h).plain
 value_plain (g.new w n) = plain_more (is_plain refl w) (plain_more (is_plain refl n) plain_end)
@@ -100,6 +111,7 @@ starts_stmt sort.While = true
 starts_stmt sort.Check = true
 starts_stmt s = false
 
+-- the list has a first token, which may begin a statement
 pub record Begins (ts : List Terminal) : Type 0 where
   pub first : Terminal
   pub others : List Terminal
@@ -117,6 +129,7 @@ place_begins (g.of_local {dot = dot} {name = name} o d n) = begins_with (dot ∷
 place_begins (g.of_shared {dot = dot} {name = name} s d n) = begins_with (dot ∷ name ∷ []) refl s
 place_begins (g.of_field {dot = dot} {name = name} h d n) = begins_more (dot ∷ name ∷ []) (place_begins h)
 
+-- a statement is not empty, and shows by its first token that it is one
 pub stmt_begins : {ts : List Terminal} {s : Stmt} → IsStmt ts s → Begins ts
 stmt_begins (g.var w n c t a v s) = begins_with _ refl w
 stmt_begins (g.assigned n a v s) = begins_with _ refl n

@@ -32,6 +32,7 @@ pub follows_map : {A B : Type 0} (cs : Symbols) (ts : List Terminal) (o : Outcom
 follows_map cs ts (Ok p) f a = a
 follows_map cs ts (Err rest) f a = a
 
+-- for no symbols no tokens are taken
 pub stays : (ts : List Terminal) → Goes grammar [] ts ts
 stays ts = goes_nowhere grammar ts
 
@@ -40,6 +41,7 @@ pub told_yes : {A : Type 0} (b : Bool) (x y : A) → b ≡ true → cond (b || f
 told_yes true x y e = refl
 told_yes false x y e = absurd cc
 
+-- the other choice, where that sort is not the next
 pub told_no : {A : Type 0} (b : Bool) (x y : A) → b ≡ false → cond (b || false) x y ≡ y
 told_no true x y e = absurd cc
 told_no false x y e = refl
@@ -50,6 +52,7 @@ expected : {B : Type 0} (s : Sort) (ds : Symbols) (t : Terminal) (ts : List Term
 expected s ds t ts f true e h = reads_on grammar (token s ∷ []) ds (t ∷ ts) ts (f t ts) (goes_token grammar s t ts e) (h (record { same = sort_means t.sort s e }))
 expected s ds t ts f false e h = stops_first grammar (token s ∷ []) ds (t ∷ ts) (t ∷ ts) (stops_token grammar s t ts e)
 
+-- the next token is expected to be of the sort, and then more symbols
 pub follows_expect : {B : Type 0} (s : Sort) (ds : Symbols) (ts : List Terminal) (f : Terminal → Reader B)
     → ((t : Terminal) (us : List Terminal) → ts ≡ t ∷ us → Is s t → Follows ds us (f t us))
     → Follows (token s ∷ ds) ts (and_then (expect s ts) f)
@@ -69,6 +72,7 @@ follows_take s ds (t ∷ ts) f e n h =
 pub follows_part : {A : Type 0} (n : Part) (c : Symbols) (ts : List Terminal) (o : Outcome A) → chosen n (next_sort ts) ≡ Some c → Follows c ts o → Follows (part n ∷ []) ts o
 follows_part n c ts o e h = reads_part grammar n c ts o (at_next n ts ∙ e) h
 
+-- the chart stops where no choice of a part fits the next token
 pub follows_none : (n : Part) (ts : List Terminal) → chosen n (next_sort ts) ≡ None → Stops grammar (part n ∷ []) ts ts
 follows_none n ts e = stops_stuck grammar n ts (at_next n ts ∙ e)
 

@@ -35,6 +35,7 @@ module _ (P : List Terminal → Expr → Type 0)
   unfolding r.fields_after
   sound_fields front us object p = sound_turns (is_sort sort.Dot) r.field_after P sound_field front us object p
 
+-- what is read as a shared variable is spelled `shared`, dot, name
 pub sound_shared : (P : List Terminal → Expr → Type 0) → ((shared dot name : Terminal) → Is sort.Shared shared → Is sort.Dot dot → Is sort.Name name
     → P (shared ∷ dot ∷ name ∷ []) (expr.Shared name.bytes dot.site))
     → (ts : List Terminal) → Sound P ts (r.shared_field ts)
@@ -50,6 +51,7 @@ unfolding r.field_after
 local_field name us n = sound_expect sort.Dot (After (name ∷ []) IsPlace) us _ (λ dot vs is_dot. sound_expect sort.Name _ vs _
     (λ field ws is_name. sound_pure _ ws _ (g.of_local n is_dot is_name)))
 
+-- what is read after a name as its fields makes a target with the name
 pub sound_place_after : (name : Terminal) (us : List Terminal) → Is sort.Name name → Sound (After (name ∷ []) IsPlace) us (r.place_after name us)
 unfolding r.place_after
 sound_place_after name us n =
@@ -60,6 +62,7 @@ place_at : (s : Sort) (ts : List Terminal) → Sound IsPlace ts (r.place_by s ts
 place_at sort.Shared ts = sound_then IsPlace IsPlace ts (r.shared_field ts) r.fields_after (sound_shared IsPlace (λ shared dot name a b c. g.of_shared a b c) ts) place_fields
 place_at s ts = sound_expect sort.Name IsPlace ts r.place_after (λ name us is_name. sound_place_after name us is_name)
 
+-- what is read as a target is spelled as one
 pub sound_place : (ts : List Terminal) → Sound IsPlace ts (r.place ts)
 unfolding r.place
 sound_place ts = place_at (next_sort ts) ts

@@ -14,6 +14,7 @@ pub record Spelled {A : Type 0} (Is_spelled : List Terminal → A → Type 0) (t
   pub split : ts ≡ front ++ rest
   pub spells : Is_spelled front x
 
+-- where a reader succeeds, the tokens that it took spell what it made
 abbrev pub Sound : {A : Type 0} → (List Terminal → A → Type 0) → List Terminal → Outcome A → Type 0
 Sound P ts (Ok p) = Spelled P ts p.0 p.1
 Sound P ts (Err rest) = Unit {0}
@@ -22,6 +23,7 @@ Sound P ts (Err rest) = Unit {0}
 abbrev pub After : {A : Type 0} → List Terminal → (List Terminal → A → Type 0) → List Terminal → A → Type 0
 After front P = λ ts x. P (front ++ ts) x
 
+-- nothing is read for what no tokens spell
 abbrev pub sound_pure : {A : Type 0} (P : List Terminal → A → Type 0) (ts : List Terminal) (x : A) → P [] x → Spelled P ts x ts
 sound_pure P ts x h = record { front = []; split = refl; spells = h }
 
@@ -43,6 +45,7 @@ pub sound_map : {A B : Type 0} (P : List Terminal → A → Type 0) (R : List Te
 sound_map P R ts (Ok p) f s h = record { front = s.front; split = s.split; spells = h s.front p.0 s.spells }
 sound_map P R ts (Err rest) f s h = tt
 
+-- what is read soundly in one sense is so in each wider one
 pub sound_weaken : {A : Type 0} (P R : List Terminal → A → Type 0) (ts : List Terminal) (o : Outcome A) → Sound P ts o → ((front : List Terminal) (x : A) → P front x → R front x)
     → Sound R ts o
 sound_weaken P R ts (Ok p) s h = record { front = s.front; split = s.split; spells = h s.front p.0 s.spells }
@@ -63,6 +66,7 @@ expected sort R t ts f true e h =
     one_and_one (λ front x. front ≡ x ∷ []) R (t ∷ ts) (t, ts) (f t ts) (record { front = t ∷ []; split = refl; spells = refl }) (h t ts (record { same = sort_means t.sort sort e }))
 expected sort R t ts f false e h = tt
 
+-- a token of the expected sort, and then something
 pub sound_expect : {B : Type 0} (sort : Sort) (R : List Terminal → B → Type 0) (ts : List Terminal) (f : Terminal → Reader B)
     → ((t : Terminal) (us : List Terminal) → Is sort t → Sound (After (t ∷ []) R) us (f t us)) → Sound R ts (and_then (expect sort ts) f)
 unfolding expect

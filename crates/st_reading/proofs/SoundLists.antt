@@ -16,11 +16,13 @@ many_more P us x p none = subst (λ (l : List Terminal). AreMany P l (x ∷ []))
 many_more P us x p (more {ts = ts} {us = vs} {item = y} {items = ys} q h) =
     subst (λ (l : List Terminal). AreMany P l (y ∷ ys ++ x ∷ [])) (sym (append_assoc ts vs us)) (more q (many_more P us x p h))
 
+-- one statement more after a list of statements
 pub stmts_more : (us : List Terminal) (x : Stmt) → IsStmt us x → {ts : List Terminal} {xs : List Stmt} → AreStmts ts xs → AreStmts (ts ++ us) (xs ++ x ∷ [])
 stmts_more us x p no_stmts = subst (λ (l : List Terminal). AreStmts l (x ∷ [])) (append-nil us) (more_stmts p no_stmts)
 stmts_more us x p (more_stmts {ts = ts} {us = vs} {s = y} {ss = ys} q h) =
     subst (λ (l : List Terminal). AreStmts l (y ∷ ys ++ x ∷ [])) (sym (append_assoc ts vs us)) (more_stmts q (stmts_more us x p h))
 
+-- one item more, after a comma
 pub listed_more : {A : Type 0} (P : List Terminal → A → Type 0) (comma : Terminal) (us : List Terminal) (x : A) → Is sort.Comma comma → P us x → {ts : List Terminal} {xs : List A}
     → AreListed P ts xs
     → AreListed P (ts ++ comma ∷ us) (xs ++ x ∷ [])
@@ -28,6 +30,7 @@ listed_more P comma us x c p (last q) = next q c (last p)
 listed_more P comma us x c p (next {ts = ts} {us = vs} {comma = d} {item = y} {items = ys} q e h) =
     subst (λ (l : List Terminal). AreListed P l (y ∷ ys ++ x ∷ [])) (sym (append_assoc ts (d ∷ vs) (comma ∷ us))) (next q e (listed_more P comma us x c p h))
 
+-- one expression more, after a comma
 pub exprs_more : (comma : Terminal) (us : List Terminal) (x : Expr) → Is sort.Comma comma → IsExpr us x → {ts : List Terminal} {xs : List Expr} → AreExprs ts xs
     → AreExprs (ts ++ comma ∷ us) (xs ++ x ∷ [])
 exprs_more comma us x c p (last_expr q) = next_expr q c (last_expr p)

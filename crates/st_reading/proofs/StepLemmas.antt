@@ -38,6 +38,7 @@ enclosed_none list closing rest h =
     ap (λ (b : Bool). and_then ((if b then pure [] else list) (closing ∷ rest)) (λ items. expect sort.CloseParen >> pure items)) (same_is sort.CloseParen closing h)
     ∙ expect_then sort.CloseParen (λ _. pure []) closing rest (Ok ([], rest)) h refl
 
+-- a list that does not begin with `)`, and then a `)`, is the items of the list
 pub enclosed_some : {A : Type 0} (list : Reader (List A)) (xs : List Terminal) (items : List A) (closing : Terminal) (rest : List Terminal) → same_sort (next_sort xs) sort.CloseParen ≡ false
     → list xs ≡ Ok (items, closing ∷ rest) → Is sort.CloseParen closing → enclosed list xs ≡ Ok (items, rest)
 unfolding enclosed sees
@@ -58,16 +59,19 @@ pub field_ok : (object : Expr) (dot name : Terminal) (rest : List Terminal) → 
 unfolding r.field_after
 field_ok object dot name rest d n = expect_then sort.Dot _ dot (name ∷ rest) _ d (expect_then sort.Name _ name rest _ n refl)
 
+-- where a dot and a name come next, reading goes on from the field
 pub fields_go : (object : Expr) (dot name : Terminal) (rest : List Terminal) → Is sort.Dot dot → Is sort.Name name
     → r.fields_after object (dot ∷ name ∷ rest) ≡ r.fields_after (expr.Field object name.bytes dot.site) rest
 unfolding r.fields_after
 fields_go object dot name rest d n =
     turns_go (is_sort sort.Dot) r.field_after object (expr.Field object name.bytes dot.site) dot (name ∷ rest) rest (same_is sort.Dot dot d) (field_ok object dot name rest d n) (omega arith)
 
+-- a token of a tier above the dot's ends the fields
 pub fields_end : (object : Expr) (rest : List Terminal) → 2 < tier (next_sort rest) → r.fields_after object rest ≡ Ok (object, rest)
 unfolding r.fields_after
 fields_end object rest h = turns_end (is_sort sort.Dot) r.field_after object rest (is_other 2 (next_sort rest) sort.Dot refl h)
 
+-- `shared`, a dot and a name are read as a shared variable
 pub shared_ok : (shared dot name : Terminal) (rest : List Terminal) → Is sort.Shared shared → Is sort.Dot dot → Is sort.Name name
     → r.shared_field (shared ∷ dot ∷ name ∷ rest) ≡ Ok (expr.Shared name.bytes dot.site, rest)
 unfolding r.shared_field
@@ -79,6 +83,7 @@ unfolding r.nested
 whole_ok zero xs out w h = absurd (omega arith)
 whole_ok (suc d) xs out w h = h d (omega arith)
 
+-- the same for what stands behind a sign
 pub prefixed_ok : (d : ℕ) (xs : List Terminal) (out : Outcome Expr) → span xs < d → ((e : ℕ) → span xs ≤ e → r.unary (r.nested e) xs ≡ out) → r.nested d level.Prefixed xs ≡ out
 unfolding r.nested
 prefixed_ok zero xs out w h = absurd (omega arith)

@@ -8,12 +8,15 @@ use Rattle.st_syntax.specs.Sorts.{same_sort}
 use Rattle.st_reading.specs.Reading.{Outcome, Reader, and_then, ◌>>=◌, pure, take_any, expect, if_shorter, turns_from, turns, is_sort, sees}
 use Rattle.st_syntax.proofs.SortLemmas.{sort_self}
 
+-- where a reader succeeds, the next one goes on with what it made and left
 pub then_ok : {A B : Type 0} (o : Outcome A) (f : A → Reader B) (x : A) (us : List Terminal) (out : Outcome B) → o ≡ Ok (x, us) → f x us ≡ out → and_then o f ≡ out
 then_ok o f x us out e h = ap (λ p. and_then p f) e ∙ h
 
+-- a token of a sort passes the test for it
 pub same_is : (s : Sort) (t : Terminal) → Is s t → same_sort t.sort s ≡ true
 same_is s t h = subst (λ (x : Sort). same_sort x s ≡ true) (sym h.same) (sort_self s)
 
+-- a token of the expected sort is taken
 pub expect_ok : (s : Sort) (t : Terminal) (ts : List Terminal) → Is s t → expect s (t ∷ ts) ≡ Ok (t, ts)
 unfolding expect
 expect_ok s t ts h = ap (λ (b : Bool). if b then Ok (t, ts) else Err (t ∷ ts)) (same_is s t h)

@@ -70,6 +70,7 @@ fits_from braces since (t ∷ ts) a b e =
     let few : since + span (t ∷ ts) ≤ MOST_TOKENS_BETWEEN = k.before (span ts) rest.few in
     record { few = few; kept = within_more (omega (arith, few)) k.few rest.kept }
 
+-- tokens of which none is above a limit keep the limits from the beginning
 pub within_reads : (ts : List Terminal) → first_over ts ≡ None → Within MOST_TOKENS_BETWEEN MOST_OPEN_BRACES 0 ts
 unfolding first_over
 within_reads ts e = (fits_from 0 0 ts (omega arith) (omega arith) e).kept

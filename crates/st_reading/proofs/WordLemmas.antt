@@ -27,17 +27,21 @@ abbrev pub span : List Terminal → ℕ
 span [] = 0
 span (t ∷ ts) = cond (separates t.sort) 0 (suc (span ts))
 
+-- no separator is among the tokens
 pub data Plain : List Terminal → Type 0 where
   plain_end : Plain []
   plain_more : {t : Terminal} {ts : List Terminal} → separates t.sort ≡ false → Plain ts → Plain (t ∷ ts)
 
+-- nor is one in two such lists together
 pub plain_append : {ts us : List Terminal} → Plain ts → Plain us → Plain (ts ++ us)
 plain_append plain_end q = q
 plain_append (plain_more e p) q = plain_more e (plain_append p q)
 
+-- one token more that is no separator makes the way to the next separator longer by one
 pub span_more : (t : Terminal) (ts : List Terminal) → separates t.sort ≡ false → span (t ∷ ts) ≡ suc (span ts)
 span_more t ts e = ap (λ b. cond b 0 (suc (span ts))) e
 
+-- after a front without separators the way to the next one is no longer
 pub span_after : {ts : List Terminal} → Plain ts → (us : List Terminal) → span us ≤ span (ts ++ us)
 span_after plain_end us = omega arith
 span_after (plain_more {t = t} {ts = ts} e p) us = omega (arith, span_after p us, span_more t (ts ++ us) e)
@@ -55,6 +59,7 @@ starts_expr sort.Not = true
 starts_expr sort.Minus = true
 starts_expr s = false
 
+-- an operator of a chain is no separator
 pub chained_plain : (c : Chain) (s : Sort) (o : Op) → chained c s ≡ Some o → separates s ≡ false
 chained_plain chain.Either sort.Either o e = refl
 chained_plain chain.Both sort.Both o e = refl
@@ -65,6 +70,7 @@ chained_plain chain.Product sort.Slash o e = refl
 chained_plain chain.Product sort.Percent o e = refl
 chained_plain _ _ o e = absurd cc
 
+-- nor is a comparison
 pub compared_plain : (s : Sort) (o : Op) → compared s ≡ Some o → separates s ≡ false
 compared_plain sort.Equal o e = refl
 compared_plain sort.NotEqual o e = refl
@@ -74,6 +80,7 @@ compared_plain sort.Greater o e = refl
 compared_plain sort.GreaterEq o e = refl
 compared_plain _ o e = absurd cc
 
+-- a token of a sort that is no separator is none
 pub is_plain : {s : Sort} {t : Terminal} → separates s ≡ false → Is s t → separates t.sort ≡ false
 is_plain e h = ap separates h.same ∙ e
 
@@ -155,6 +162,7 @@ mutual
   exprs_words (last_expr h) = expr_words h
   exprs_words (next_expr h c r) = words_more (expr_words h) (plain_more (is_plain refl c) (exprs_words r).plain)
 
+-- a target has no separator in it
 pub place_plain : {ts : List Terminal} {e : Expr} → IsPlace ts e → Plain ts
 place_plain (of_local o d n) = plain_more (is_plain refl o) (plain_more (is_plain refl d) (one refl n))
 place_plain (of_shared s d n) = plain_more (is_plain refl s) (plain_more (is_plain refl d) (one refl n))

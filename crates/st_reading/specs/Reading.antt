@@ -34,25 +34,31 @@ use Rattle.st_syntax.specs.Terminals.{Terminal, next_sort}
 abbrev pub Outcome : Type 0 → Type 0
 Outcome A = Result (A × List Terminal) (List Terminal)
 
+-- a function from the terminals that are left
 abbrev pub Reader : Type 0 → Type 0
 Reader A = List Terminal → Outcome A
 
+-- on from what was read and what is left; a fault stays
 abbrev pub and_then : {A B : Type 0} → Outcome A → (A → Reader B) → Outcome B
 and_then (Ok p) f = f p.0 p.1
 and_then (Err rest) f = Err rest
 
 infixl 10 ◌>>=◌
+-- one reader, and then the one that its result chooses
 abbrev pub ◌>>=◌ : {A B : Type 0} → Reader A → (A → Reader B) → Reader B
 r >>= f = λ ts. and_then (r ts) f
 
 infixl 10 ◌>>◌
+-- one reader, and then another, whose result alone is kept
 abbrev pub ◌>>◌ : {A B : Type 0} → Reader A → Reader B → Reader B
 r >> s = r >>= (λ _. s)
 
+-- takes nothing and makes this
 abbrev pub pure : {A : Type 0} → A → Reader A
 pure a = λ ts. Ok (a, ts)
 
 infixr 11 ◌<$>◌
+-- a reader, of whose result something else is made
 abbrev pub ◌<$>◌ : {A B : Type 0} → (A → B) → Reader A → Reader B
 f <$> r = r >>= (λ x. pure (f x))
 
@@ -68,6 +74,7 @@ peek = λ ts. Ok (next_sort ts, ts)
 unfoldable pub sees : Sort → List Terminal → Bool
 sees sort ts = same_sort (next_sort ts) sort
 
+-- whether the next terminal is of the sort; it is not taken
 abbrev pub see : Sort → Reader Bool
 see sort = λ ts. Ok (sees sort ts, ts)
 
@@ -104,6 +111,7 @@ one_more item items = (λ x. items ++ x ∷ []) <$> item
 unfoldable pub many : {A : Type 0} → (Sort → Bool) → Reader A → Reader (List A)
 many asks item = turns asks (one_more item) []
 
+-- asks for a turn at terminals of one sort
 abbrev pub is_sort : Sort → Sort → Bool
 is_sort wanted sort = same_sort sort wanted
 
@@ -130,6 +138,7 @@ field_after object = do
   name ← expect sort.Name
   pure (expr.Field object name.bytes dot.site)
 
+-- as many fields as there are
 unfoldable pub fields_after : Expr → Reader Expr
 fields_after object = turns (is_sort sort.Dot) field_after object
 
@@ -145,6 +154,7 @@ shared_field = do
 unfoldable pub place_after : Terminal → Reader Expr
 place_after object = field_after (expr.Local object.bytes object.site) >>= fields_after
 
+-- a place begins with `shared` or with a name
 abbrev pub place_by : Sort → Reader Expr
 place_by sort.Shared = shared_field >>= fields_after
 place_by _ = expect sort.Name >>= place_after
@@ -153,6 +163,7 @@ place_by _ = expect sort.Name >>= place_after
 unfoldable pub place : Reader Expr
 place = peek >>= place_by
 
+-- a literal is one terminal
 abbrev pub literal_by : Sort → Reader Expr
 literal_by sort.Number = (λ t. expr.Number t.value t.site) <$> take_any
 literal_by sort.True = (λ t. expr.Truth true t.site) <$> take_any
@@ -164,6 +175,7 @@ literal_by _ = refuse
 unfoldable pub literal : Reader Expr
 literal = peek >>= literal_by
 
+-- asks for a turn at an operator of the level
 abbrev pub is_operator : Chain → Sort → Bool
 is_operator chain sort = is_some (chained chain sort)
 
@@ -188,26 +200,32 @@ module _ (inner : Level → Reader Expr) where
     expect sort.CloseParen
     pure (expr.Paren e opening.site)
 
+  -- a primary by its first terminal
   abbrev pub primary_by : Sort → Reader Expr
   primary_by sort.Name = named
   primary_by sort.Shared = shared_field
   primary_by sort.OpenParen = paren
   primary_by _ = literal
 
+  -- named | shared field | paren | literal
   unfoldable pub primary : Reader Expr
   primary = peek >>= primary_by
 
+  -- primary { "." name }
   unfoldable pub postfix : Reader Expr
   postfix = primary >>= fields_after
 
+  -- a sign before another unary, or none
   abbrev pub unary_by : Sort → Reader Expr
   unary_by sort.Not = take_any >>= (λ mark. (λ e. expr.Not e mark.site) <$> inner level.Prefixed)
   unary_by sort.Minus = take_any >>= (λ mark. (λ e. expr.Minus e mark.site) <$> inner level.Prefixed)
   unary_by _ = postfix
 
+  -- "!" unary | "-" unary | postfix
   unfoldable pub unary : Reader Expr
   unary = peek >>= unary_by
 
+  -- the operator, which is taken, and its right operand
   abbrev pub binary : Reader Expr → Expr → Option Op → Reader Expr
   binary operand left None = refuse
   binary operand left (Some op) = take_any >>= (λ mark. (λ right. expr.Binary op left right mark.site) <$> operand)
@@ -220,12 +238,15 @@ module _ (inner : Level → Reader Expr) where
   unfoldable pub linked : Chain → Reader Expr → Reader Expr
   linked chain operand = operand >>= turns (is_operator chain) (link chain operand)
 
+  -- unary { ( "*" | "/" | "%" ) unary }
   unfoldable pub term : Reader Expr
   term = linked chain.Product unary
 
+  -- term { ( "+" | "-" ) term }
   unfoldable pub sum : Reader Expr
   sum = linked chain.Sum term
 
+  -- a sum with or without a comparison behind it
   abbrev pub cmp_after : Expr → Option Op → Reader Expr
   cmp_after left None = pure left
   cmp_after left (Some op) = binary sum left (Some op)
@@ -237,9 +258,11 @@ module _ (inner : Level → Reader Expr) where
     sort ← peek
     cmp_after left (compared sort)
 
+  -- cmp { "&&" cmp }
   unfoldable pub and : Reader Expr
   and = linked chain.Both cmp
 
+  -- and { "||" and }
   unfoldable pub or : Reader Expr
   or = linked chain.Either and
 
@@ -272,6 +295,7 @@ nested zero level = refuse
 nested (suc depth) level.Whole = choice (nested depth)
 nested (suc depth) level.Prefixed = unary (nested depth)
 
+-- a type is one terminal: a word, or the name of a class
 abbrev pub type_by : Sort → Reader TypeName
 type_by sort.Int = (λ t. types.Int) <$> take_any
 type_by sort.Bool = (λ t. types.Bool) <$> take_any
@@ -310,6 +334,7 @@ cas_value = do
   expect sort.CloseParen
   pure (value.Cas at wanted e word.site)
 
+-- `new` and `cas` begin values of their own; all else is an expression
 abbrev pub value_by : Sort → Reader Value
 value_by sort.New = new_value
 value_by sort.Cas = cas_value
@@ -352,6 +377,7 @@ call_after name = do
 abbrev pub assign_after : Terminal → Reader Stmt
 assign_after name = (λ v. stmt.Assign name.bytes v name.site) <$> assigned
 
+-- a name begins an assignment, a call, or a place to put something
 abbrev pub after_name : Terminal → Sort → Reader Stmt
 after_name name sort.Assign = assign_after name
 after_name name sort.OpenParen = call_after name
@@ -413,6 +439,7 @@ module _ (inner_block : Reader (List Stmt)) where
     body ← inner_block
     pure (stmt.While test body word.site)
 
+  -- a statement by its first terminal
   abbrev pub stmt_by : Sort → Reader Stmt
   stmt_by sort.Var = var_stmt
   stmt_by sort.Name = named_stmt
