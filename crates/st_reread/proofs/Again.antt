@@ -7,6 +7,7 @@ use Rattle.st_syntax.specs.Grammar.{AreMany, none, more}
 use Rattle.st_syntax.specs.Terminals.{Terminal}
 use Rattle.st_reread.proofs.Written.{blank, Written, wrote_none, wrote_all}
 
+-- the terminals without their places spell the tree given here, and they are written as these words
 pub record Again {A : Type 0} (IsIt : List Terminal → A → Type 0) (ts : List Terminal) (a : A) (ws : List Word) : Type 0 where
   pub again : IsIt (map blank ts) a
   pub written : Written ts ws

@@ -192,6 +192,7 @@ layer_also (Stmt-F.Call name args site) = ap stmt_items (sym (stmt.rolls-Call na
 layer_also (Stmt-F.Check body site) =
     ap stmt_items (sym (stmt.rolls-Check (bare_expr body) nowhere)) ∙ items_of_stmt (Stmt-F.Check (bare_expr body) nowhere) ∙ check_same body site
 
+-- a statement without its places has the same items to count, without theirs
 pub stmt_same : (s : Stmt) → stmt_items (bare_stmt s) ≡ map bare_item (stmt_items s)
 stmt_same = ind-Stmt IsAlso (λ x y is.
     subst (λ z. IsAlso (roll-Stmt z)) is

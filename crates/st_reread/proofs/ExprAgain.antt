@@ -130,6 +130,7 @@ mutual
       made (map-append blank ts (comma ∷ us)) refl (args_next r e) (next_expr (expr_again h).again (blank_is c) (exprs_again r).again)
       (wrote_all (expr_again h).written (wrote (is_word refl c) (exprs_again r).written))
 
+-- a target is read again from its words
 pub place_again : {ts : List Terminal} {e : Expr} → IsPlace ts e → Anew IsPlace ts e
 place_again (of_local {object = object} {dot = dot} {name = name} o d k) =
     let inner : expr_words (expr.Local object.bytes object.site) ≡ object.bytes ∷ [] = n.words_local object.bytes object.site in

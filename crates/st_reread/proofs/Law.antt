@@ -197,6 +197,7 @@ sorts_same us ts e = sym (blanked us) ∙ ap (map (λ (t : Terminal). t.sort)) e
     blanked [] = refl
     blanked (t ∷ ts) = ap (λ l. t.sort ∷ l) (blanked ts)
 
+-- the written words are tokens again, and these spell one tree only, which is the first one but for places
 pub reads_back : (p : Program) → IsOfGrammar p → ReadsBack p
 unfolding canonical_text
 reads_back p g =

@@ -21,6 +21,7 @@ pub data Told : List Terminal → List Word → Type 0 where
 abbrev pub IsGood : Terminal → Type 0
 IsGood t = is_used t.sort ≡ true → Fine t
 
+-- written terminals that come from the tokens of a text are tokens again
 pub told_from : {ts : List Terminal} {ws : List Word} → Written ts ws → AllByRecursion IsGood ts → Told ts ws
 told_from wrote_none all = told_none
 told_from (wrote h p) all = told (all.0 h.used) h.bytes (told_from p all.1)
@@ -33,6 +34,7 @@ pub record Parted (ts : List Terminal) (ws vs : List Word) : Type 0 where
   pub first : Told front ws
   pub second : Told back vs
 
+-- terminals that are told as two lists of words are two lists themselves
 pub parted : (ws vs : List Word) (ts : List Terminal) → Told ts (ws ++ vs) → Parted ts ws vs
 parted [] vs ts h = record { front = []; back = ts; is = refl; first = told_none; second = h }
 parted (w ∷ ws) vs all (told {t = t} {ts = ts} f e p) =
@@ -88,6 +90,7 @@ line_reads text l ts rest us p r =
     append_assoc (indented ++ joined l.words) (10 ∷ []) rest ∙ append_assoc indented (joined l.words) (10 ∷ rest) in
     subst (λ z. Reads text z (ts ++ us)) (sym same) (blanks text (2 * l.depth) (joined l.words ++ 10 ∷ rest) (ts ++ us) (line_words text l.words ts rest us p r))
 
+-- the tokens of a text of such lines are the words of the lines, one by one
 pub lines_read : (text : List ℕ) (ls : List Line) (ts : List Terminal) → Told ts (words_in ls) → Reads text (lines_text ls) ts
 unfolding lines_text
 lines_read text [] ts told_none = at_end text

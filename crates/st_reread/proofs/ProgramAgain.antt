@@ -34,6 +34,7 @@ field_words f = f.name ∷ codes ":" ∷ type_word f.kind ∷ codes ";" ∷ []
 field_of : List ℕ → TypeName → Field
 field_of name kind = record { name = name; kind = kind; site = nowhere }
 
+-- a field or a shared variable is read again from its line
 pub field_again : (ts : List Terminal) (f : Field) → IsField ts f → Again IsField ts (bare_field f) (words_in (field_line f ∷ []))
 unfolding field_of
 field_again ts f (field {name = name} {colon = colon} {semicolon = semicolon} {ts = us} {kind = kind} k c t z) =
@@ -54,6 +55,7 @@ each_again bare lines each {items = items} h =
     let r = many_again bare (λ a. words_in (lines a)) each h in
     made refl refl (words_of_each lines items) r.again r.written
 
+-- fields, one after another
 pub fields_again : {ts : List Terminal} {fields : List Field} → AreMany IsField ts fields
     → Again (AreMany IsField) ts (map bare_field fields) (words_in (each_field fields))
 fields_again h = each_again bare_field (λ f. field_line f ∷ []) field_again h
@@ -65,6 +67,7 @@ class_of name fields = record { name = name; fields = fields; site = nowhere }
 pub braced_fields : (fields : List Field) → words_in (fields_lines fields) ≡ words_in (each_field fields) ++ codes "}" ∷ []
 braced_fields fields = words_in_two (each_field fields) (closing 0 ∷ [])
 
+-- a class is read again from its lines
 pub class_again : (ts : List Terminal) (c : Class) → IsClass ts c → Again IsClass ts (bare_class c) (words_in (class_lines c))
 unfolding class_of
 class_again ts c (class {word = w} {name = name} {opening = opening} {closing = end} {ts = us} {fields = fields} h k o f z) =
@@ -108,6 +111,7 @@ pred_words_are name p t b =
     ∙ ap (λ l. codes "pred" ∷ name ∷ codes "(" ∷ (l ++ codes ";" ∷ []))
     (append_assoc p (codes ")" ∷ []) (codes ":" ∷ t ∷ codes "=" ∷ b) ∙ sym (append_assoc p (codes ")" ∷ codes ":" ∷ t ∷ []) (codes "=" ∷ b)))
 
+-- a predicate is read again from its line
 pub pred_again : (ts : List Terminal) (p : Pred) → IsPred ts p → Again IsPred ts (bare_pred p) (words_in (pred_lines p))
 unfolding pred_of
 pred_again all p (g.pred {word = w} {name = name} {opening = opening} {closing = end} {colon = colon} {assign = assign} {semicolon = semicolon}
@@ -129,6 +133,7 @@ proc_words_are : (name : List ℕ) (p b : List Word)
 proc_words_are name p b = ap (λ l. codes "proc" ∷ name ∷ codes "(" ∷ l)
     (ap (λ l. l ++ b) (append_assoc p (codes ")" ∷ []) (codes "{" ∷ [])) ∙ append_assoc p (codes ")" ∷ codes "{" ∷ []) b)
 
+-- a procedure is read again from its lines
 pub proc_again : (ts : List Terminal) (p : Proc) → IsProc ts p → Again IsProc ts (bare_proc p) (words_in (proc_lines p))
 unfolding proc_of
 proc_again all p (g.proc {word = w} {name = name} {opening = opening} {closing = end} {ts = ts} {us = us} {params = params} {body = body} h k o ps c b) =
@@ -141,6 +146,7 @@ proc_again all p (g.proc {word = w} {name = name} {opening = opening} {closing =
 thread_of : List ℕ → List Stmt → Thread
 thread_of name body = record { name = name; body = body; site = nowhere }
 
+-- a thread is read again from its lines
 pub thread_again : (ts : List Terminal) (t : Thread) → IsThread ts t → Again IsThread ts (bare_thread t) (words_in (thread_lines t))
 unfolding thread_of
 thread_again all t (g.thread {word = w} {name = name} {ts = ts} {body = body} h k b) =

@@ -31,12 +31,14 @@ use Rattle.st_reread.proofs.StmtNodes.{words_in, bare_other, other_lines}
 named : {t : Terminal} → Is sort.Name t → IsWord t t.bytes
 named h = is_word refl h
 
+-- a type is read again from its own word
 pub type_again : {ts : List Terminal} {kind : TypeName} → IsType ts kind → Again IsType ts (bare_type kind) (type_word kind ∷ [])
 type_again (int h) = record { again = int (blank_is h); written = wrote (is_word refl h) wrote_none }
 type_again (bool h) = record { again = bool (blank_is h); written = wrote (is_word refl h) wrote_none }
 type_again (class_name {t = t} h) =
     made refl (ap (λ b. types.Class b nowhere) (sym (name_is h))) refl (class_name (blank_is h)) (wrote (named h) wrote_none)
 
+-- what stands to the right of `=` is read again from its words
 pub value_again : {ts : List Terminal} {v : Value} → IsValue ts v → Again IsValue ts (bare_value v) (value_words v)
 value_again (of_expr h) = record { again = of_expr (expr_again h).again; written = (expr_again h).written }
 value_again (new {word = w} {name = name} h k) =

@@ -7,10 +7,12 @@ use Rattle.st_reading.proofs.Exact.{spelled_is_text, text_is_spelled}
 use Rattle.st_syntax.specs.Grammar.{Parses}
 use Rattle.st_syntax.specs.Terminals.{Terminal}
 
+-- the first of a list, or this one where there is none
 abbrev pub head_or : {A : Type 0} → A → List A → A
 head_or a [] = a
 head_or a (x ∷ xs) = x
 
+-- all but the first
 abbrev pub tail_of : {A : Type 0} → List A → List A
 tail_of [] = []
 tail_of (x ∷ xs) = xs

@@ -64,6 +64,7 @@ abbrev pub is_used : Sort → Bool
 is_used sort.Other = false
 is_used s = true
 
+-- how a terminal is written
 abbrev pub word : Terminal → Word
 word t = word_of t.sort t.bytes t.value
 
@@ -81,6 +82,7 @@ pub data Written : List Terminal → List Word → Type 0 where
   wrote_none : Written [] []
   wrote : {t : Terminal} {ts : List Terminal} {w : Word} {ws : List Word} → IsWord t w → Written ts ws → Written (t ∷ ts) (w ∷ ws)
 
+-- two lists of terminals are written one after the other
 pub wrote_all : {ts us : List Terminal} {ws vs : List Word} → Written ts ws → Written us vs → Written (ts ++ us) (ws ++ vs)
 wrote_all wrote_none q = q
 wrote_all (wrote h p) q = wrote h (wrote_all p q)
@@ -89,6 +91,7 @@ wrote_all (wrote h p) q = wrote h (wrote_all p q)
 pub is_word : {s : Sort} {t : Terminal} → is_used s ≡ true → Is s t → IsWord t (word_of s t.bytes t.value)
 is_word {t = t} used h = record { used = ap is_used h.same ∙ used; bytes = ap (λ s. word_of s t.bytes t.value) h.same }
 
+-- a terminal keeps its sort without its place
 pub blank_is : {s : Sort} {t : Terminal} → Is s t → Is s (blank t)
 blank_is h = record { same = h.same }
 
@@ -122,14 +125,18 @@ compared_word sort.Greater o bytes value e = (refl, ap (λ x. op_word (some_op x
 compared_word sort.GreaterEq o bytes value e = (refl, ap (λ x. op_word (some_op x o)) e)
 compared_word _ o bytes value e = absurd cc
 
+-- an operator of a chain is written as the tree's operator is spelled
 pub chained_is : (c : Chain) {o : Op} {t : Terminal} → IsChained c o t → IsWord t (op_word o)
 chained_is c {o = o} {t = t} h = let p = chained_word c t.sort o t.bytes t.value h.same in record { used = p.0; bytes = p.1 }
 
+-- so is a comparison
 pub compared_is : {o : Op} {t : Terminal} → IsCompared o t → IsWord t (op_word o)
 compared_is {o = o} {t = t} h = let p = compared_word t.sort o t.bytes t.value h.same in record { used = p.0; bytes = p.1 }
 
+-- without its place it is the same operator
 pub blank_chained : {c : Chain} {o : Op} {t : Terminal} → IsChained c o t → IsChained c o (blank t)
 blank_chained h = record { same = h.same }
 
+-- and the same comparison
 pub blank_compared : {o : Op} {t : Terminal} → IsCompared o t → IsCompared o (blank t)
 blank_compared h = record { same = h.same }

@@ -23,6 +23,7 @@ use Rattle.st_ast.specs.declared.statements.Value.TheVariants as value
 abbrev pub nowhere : Site
 nowhere = record { line = 0; column = 0 }
 
+-- one level of an expression, whose parts are without places already
 abbrev pub expr_layer : Expr-F Expr → Expr
 expr_layer (Expr-F.Number value site) = expr.Number value nowhere
 expr_layer (Expr-F.Truth value site) = expr.Truth value nowhere
@@ -41,16 +42,19 @@ expr_layer (Expr-F.Cond test left right site) = expr.Cond test left right nowher
 unfoldable pub bare_expr : Expr → Expr
 bare_expr e = fold-Expr Expr expr_layer e
 
+-- a type; the place of a class's name goes
 abbrev pub bare_type : TypeName → TypeName
 bare_type types.Int = types.Int
 bare_type types.Bool = types.Bool
 bare_type (types.Class name site) = types.Class name nowhere
 
+-- what stands to the right of `=`
 abbrev pub bare_value : Value → Value
 bare_value (value.Plain e) = value.Plain (bare_expr e)
 bare_value (value.New class site) = value.New class nowhere
 bare_value (value.Cas place expect e site) = value.Cas (bare_expr place) (bare_expr expect) (bare_expr e) nowhere
 
+-- one level of a statement, whose blocks are without places already
 abbrev pub stmt_layer : Stmt-F Stmt → Stmt
 stmt_layer (Stmt-F.Var name name_site kind value site) = stmt.Var name nowhere (bare_type kind) (bare_value value) nowhere
 stmt_layer (Stmt-F.Assign name value site) = stmt.Assign name (bare_value value) nowhere
@@ -64,15 +68,19 @@ stmt_layer (Stmt-F.Check body site) = stmt.Check (bare_expr body) nowhere
 unfoldable pub bare_stmt : Stmt → Stmt
 bare_stmt s = fold-Stmt Stmt stmt_layer s
 
+-- a field or a shared variable keeps its name and its type
 abbrev pub bare_field : Field → Field
 bare_field field = record { name = field.name; kind = bare_type field.kind; site = nowhere }
 
+-- a class keeps its name and its fields
 abbrev pub bare_class : Class → Class
 bare_class class = record { name = class.name; fields = map bare_field class.fields; site = nowhere }
 
+-- a parameter keeps its name and its type
 abbrev pub bare_param : Param → Param
 bare_param param = record { name = param.name; kind = bare_type param.kind; site = nowhere }
 
+-- a predicate loses the places in its parameters, its result and its body too
 abbrev pub bare_pred : Pred → Pred
 bare_pred pred = record {
   name = pred.name;
@@ -82,9 +90,11 @@ bare_pred pred = record {
   site = nowhere;
 }
 
+-- so does a procedure, in its parameters and its statements
 abbrev pub bare_proc : Proc → Proc
 bare_proc proc = record { name = proc.name; params = map bare_param proc.params; body = map bare_stmt proc.body; site = nowhere }
 
+-- and a thread, in its statements
 abbrev pub bare_thread : Thread → Thread
 bare_thread thread = record { name = thread.name; body = map bare_stmt thread.body; site = nowhere }
 
