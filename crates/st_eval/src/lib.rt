@@ -12,8 +12,6 @@ mod operators;
 mod program_codes;
 mod stacks;
 mod steps;
-#[cfg(test)]
-mod tests;
 
 pub use asks::Ask;
 pub use evals::Eval;

@@ -19,6 +19,3 @@ mod values;
 pub use errors::ParseError;
 pub use parser::parse;
 pub use st_syntax::What;
-
-#[cfg(test)]
-mod tests;

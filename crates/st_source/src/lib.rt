@@ -11,6 +11,3 @@ pub use errors::SourceError;
 pub use laws::one_verdict;
 pub use lines::refusal_line;
 pub use reading::read_source;
-
-#[cfg(test)]
-mod tests;

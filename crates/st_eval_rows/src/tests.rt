@@ -5,11 +5,11 @@ ghost use Rattle.st_eval.specs.Evaluations.{IsMadeFor};
 
 mod programs;
 
-use crate::{Ask, Eval};
 use programs::{
     alone, binary, both, call, column, cond, down, either, fault, field, minus, not, sorted,
     with_predicate,
 };
+use st_eval::{Ask, Eval};
 use st_events::{Args, Kind, NoMemory, Plain};
 use st_program::{Expr, Operator, Resolved};
 use std::alloc::{AllocError, Global};

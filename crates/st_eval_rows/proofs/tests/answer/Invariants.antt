@@ -1,6 +1,6 @@
 use Rattle.st_program.specs.Views.{program_of}
 use Rattle.st_eval.specs.Evaluations.{IsMadeFor}
-use Rattle.st_eval.proofs.tests.answer.Given as goal
+use Rattle.st_eval_rows.proofs.tests.answer.Given as goal
 
 -- the evaluator stays the program's
 abbrev pub invariant-loop-cell : goal.invariant-loop-cell

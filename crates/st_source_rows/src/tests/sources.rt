@@ -1,9 +1,9 @@
 //! Sources and what `read_source` answers: each rule of types and its first fault, each stage, and the lines that are written.
 
-use crate::{SourceError, read_source, refusal_line};
 use st_events::Site;
 use st_lex::{LexError, MOST_SOURCE_BYTES};
 use st_parse::{ParseError, What};
+use st_source::{SourceError, read_source, refusal_line};
 use st_types::{Counts, TypeError, Wanted};
 use std::alloc::{AllocError, Global};
 use std::test::Fail;

@@ -1,8 +1,8 @@
 //! Texts and what `parse` answers: each rule and where a text first breaks it, each limit and one above it.
 
-use crate::{ParseError, What, parse};
 use st_events::Site;
 use st_lex::{MOST_SOURCE_BYTES, tokens};
+use st_parse::{ParseError, What, parse};
 use std::alloc::{AllocError, Global};
 use std::test::Fail;
 

@@ -1,0 +1,4 @@
+//! Worked rows over texts.
+
+mod parses;
+mod sources;
