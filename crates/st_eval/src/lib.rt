@@ -1,5 +1,5 @@
-//! Expressions as straight code: a list of instructions for a stack of words, in which a branch is a count of instructions that
-//! are passed over. The one call is of laws, and computes nothing.
+//! The evaluator of checks: it asks for one cell of the heap at a time, and takes no memory after it is made. Expressions are
+//! straight code: instructions for a stack of words, in which a branch is a count of instructions that are passed over.
 #![tactic(auto)]
 
 mod asks;
