@@ -15,8 +15,6 @@ mod putting;
 mod runs;
 mod sources;
 mod statuses;
-#[cfg(test)]
-mod tests;
 mod writing;
 
 pub use calls::{strobe, strobe_on_text, strobe_plain};
