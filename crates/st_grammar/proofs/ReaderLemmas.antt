@@ -1,7 +1,7 @@
 -- Readers put together.
 use Rattle.std.proofs.Common.{◌≡◌, true, false, List, [], ◌∷◌, ◌++◌, Some, None, Result, Ok, Err, sym, subst, append_assoc, arith}
 use Rattle.st_grammar.specs.Charts.{Symbol, token, part, Grammar, choice_at, sort_of_next, Faults, ends, fits, misfits, goes, stuck}
-use Rattle.st_grammar.specs.Reads.{Goes, Stops, Reads}
+use Rattle.st_grammar.specs.Reads.{Goes, Stops, FollowsChart}
 
 module _ {T K N : Type 0} (g : Grammar T K N) where
   -- nothing is read
@@ -24,13 +24,13 @@ module _ {T K N : Type 0} (g : Grammar T K N) where
   }
 
   -- after symbols that are read, the reader of more symbols
-  pub reads_on : {A : Type 0} (cs ds : List (Symbol K N)) (ts us : List T) (r : Result (A × List T) (List T)) → Goes g cs ts us → Reads g ds us r → Reads g (cs ++ ds) ts r
+  pub reads_on : {A : Type 0} (cs ds : List (Symbol K N)) (ts us : List T) (r : Result (A × List T) (List T)) → Goes g cs ts us → FollowsChart g ds us r → FollowsChart g (cs ++ ds) ts r
   reads_on cs ds ts us (Ok x) a b = goes_on cs ds ts us x.1 a b
   reads_on cs ds ts us (Err rest) a b = stops_later cs ds ts us rest a b
 
   -- the choice of the part that the next token tells
   pub reads_part : {A : Type 0} (n : N) (c : List (Symbol K N)) (ts : List T) (r : Result (A × List T) (List T)) → choice_at g n (sort_of_next g ts) ≡ Some c
-      → Reads g c ts r → Reads g (part n ∷ []) ts r
+      → FollowsChart g c ts r → FollowsChart g (part n ∷ []) ts r
   reads_part n c ts (Ok x) e a = record { shorter = a.shorter; on = λ ss o h. goes e (a.on ss o h) }
   reads_part n c ts (Err rest) e a = record { at = λ ss. goes e (a.at ss) }
 

@@ -12,6 +12,6 @@ pub record Stops {T K N : Type 0} (g : Grammar T K N) (cs : List (Symbol K N)) (
   pub at : (ss : List (Symbol K N)) → Faults g (cs ++ ss) ts (Some rest)
 
 -- a reader of the symbols answers so
-abbrev pub Reads : {T K N A : Type 0} → Grammar T K N → List (Symbol K N) → List T → Result (A × List T) (List T) → Type 0
-Reads g cs ts (Ok x) = Goes g cs ts x.1
-Reads g cs ts (Err rest) = Stops g cs ts rest
+abbrev pub FollowsChart : {T K N A : Type 0} → Grammar T K N → List (Symbol K N) → List T → Result (A × List T) (List T) → Type 0
+FollowsChart g cs ts (Ok x) = Goes g cs ts x.1
+FollowsChart g cs ts (Err rest) = Stops g cs ts rest

@@ -9,7 +9,7 @@ use Rattle.st_journal.specs.declared.errors.JournalError.TheVariants as journal
 use Rattle.st_journal.specs.Lines.{lines}
 use Rattle.st_journal.specs.declared.errors.LineFault.{LineFault}
 use Rattle.st_journal.specs.declared.errors.LineFault.TheVariants as fault
-use Rattle.st_journal.specs.Reading.{Gives, content, error_of, line_or_bad, with_rest}
+use Rattle.st_journal.specs.Reading.{IsAsRead, content, error_of, line_or_bad, with_rest}
 use Rattle.st_journal.specs.Rows.{RowLists, TakesLine, ended, rows_in, line_step}
 use Rattle.st_journal.proofs.LineLemmas.{no_lines}
 
@@ -78,7 +78,7 @@ rows_missing n rows (first ∷ rest) error e = let no = no_content n (content fi
 
 -- what is answered there
 pub missing_gives : (error : JournalError) (n : ℕ) (rows : RowLists) (all : List (List ℕ)) (total : Result RowLists JournalError)
-    → Gives (λ (parts : First). parts) (Err error) (line_or_bad n all) → rows_in n rows all ≡ total → Gives (λ (rows : RowLists). rows) (Err error) total
+    → IsAsRead (λ (parts : First). parts) (Err error) (line_or_bad n all) → rows_in n rows all ≡ total → IsAsRead (λ (rows : RowLists). rows) (Err error) total
 missing_gives journal.Memory n rows all total given same = tt
 missing_gives (journal.BadLine line) n rows all total given same = sym same ∙ rows_missing n rows all (journal.BadLine line) given
 missing_gives journal.BadVersion n rows all total given same = sym same ∙ rows_missing n rows all journal.BadVersion given
@@ -86,7 +86,7 @@ missing_gives journal.BadVersion n rows all total given same = sym same ∙ rows
 -- what is answered at a line that tells no row
 pub fault_gives : (fault : LineFault) (n : ℕ) (rows after : RowLists) (all : List (List ℕ)) (line : List ℕ) (more : List (List ℕ)) (total : Result RowLists JournalError)
     → line_or_bad n all ≡ first_is line more → TakesLine (Err fault) (line_step rows line) after
-    → rows_in n rows all ≡ total → Gives (λ (rows : RowLists). rows) (Err (error_of fault n)) total
+    → rows_in n rows all ≡ total → IsAsRead (λ (rows : RowLists). rows) (Err (error_of fault n)) total
 fault_gives fault.Memory n rows after all line more total is takes same = tt
 fault_gives fault.Bad n rows after all line more total is takes same = sym same ∙ rows_stop n rows all line more is takes
 

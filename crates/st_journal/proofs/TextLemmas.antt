@@ -13,7 +13,7 @@ use Rattle.st_journal.specs.declared.versions.TheConstants.{VERSION}
 use Rattle.st_journal.specs.Terms.{Event, Verdict}
 use Rattle.st_journal.specs.Format.{FileLists, IsFile, FitsFields, FitsVerdict, newline, line, event_words, verdict_words, version_words, sizes_words, end_words, file_lines, journal_text}
 use Rattle.st_journal.specs.Lines.{lines, IsFirstBadLine, HasOtherVersion}
-use Rattle.st_journal.specs.Reading.{Gives}
+use Rattle.st_journal.specs.Reading.{IsAsRead}
 use Rattle.st_journal.specs.Rows.{file_in}
 use Rattle.st_journal.proofs.FaultLemmas.{file_alike, bad_begins_file, bad_version_is_other, other_is_bad_version}
 use Rattle.st_journal.proofs.FileLemmas.{done, fails, read_is_of_the_format, the_format_is_read}
@@ -110,14 +110,14 @@ abbrev Outcome : Type 0
 Outcome = Result FileLists JournalError
 
 -- an answer Ok tells a file that has a text, and this is its text
-pub read_is_a_journal : (text : List ℕ) (r : Outcome) → Gives (λ (file : FileLists). file) r (file_in (lines text)) → IfOk r (λ file. IsFile file × (text ≡ journal_text file))
+pub read_is_a_journal : (text : List ℕ) (r : Outcome) → IsAsRead (λ (file : FileLists). file) r (file_in (lines text)) → IfOk r (λ file. IsFile file × (text ≡ journal_text file))
 unfolding journal_text
 read_is_a_journal text (Ok file) gives =
     let is = read_is_of_the_format (lines text) file gives in
     (is.0, sym (lines_are_joined text) ∙ ap joined is.1)
 read_is_a_journal text (Err error) gives = tt
 
-given_file : (r : Outcome) (file : FileLists) (read : Outcome) → Gives (λ (file : FileLists). file) r read → read ≡ Ok file → (r ≡ Ok file) ⊎ (r ≡ Err journal.Memory)
+given_file : (r : Outcome) (file : FileLists) (read : Outcome) → IsAsRead (λ (file : FileLists). file) r read → read ≡ Ok file → (r ≡ Ok file) ⊎ (r ≡ Err journal.Memory)
 given_file (Ok other) file read gives is = inl (sym gives ∙ is)
 given_file (Err journal.Memory) file read gives is = inr refl
 given_file (Err (journal.BadLine k)) file read gives is = absurd (apart file k (sym is ∙ gives))
@@ -130,18 +130,18 @@ given_file (Err journal.BadVersion) file read gives is = absurd (apart file (sym
     apart file e = cc
 
 -- at the text of a file the answer is this file, or that memory is wanted
-pub journal_is_read : (text : List ℕ) (r : Outcome) (file : FileLists) → Gives (λ (file : FileLists). file) r (file_in (lines text)) → IsFile file → text ≡ journal_text file
+pub journal_is_read : (text : List ℕ) (r : Outcome) (file : FileLists) → IsAsRead (λ (file : FileLists). file) r (file_in (lines text)) → IsFile file → text ≡ journal_text file
     → (r ≡ Ok file) ⊎ (r ≡ Err journal.Memory)
 journal_is_read text r file gives is same =
     given_file r file (file_in (lines text)) gives (ap (λ (t : List ℕ). file_in (lines t)) same ∙ ap file_in (lines_of_text file is) ∙ the_format_is_read file is)
 
 -- what is given at an answer
-pub given_error : (r : Outcome) (read : Outcome) (k : ℕ) → Gives (λ (file : FileLists). file) r read → r ≡ Err (journal.BadLine k) → read ≡ fails (journal.BadLine k)
-given_error r read k gives is = subst (λ (x : Outcome). Gives (λ (file : FileLists). file) x read) is gives
+pub given_error : (r : Outcome) (read : Outcome) (k : ℕ) → IsAsRead (λ (file : FileLists). file) r read → r ≡ Err (journal.BadLine k) → read ≡ fails (journal.BadLine k)
+given_error r read k gives is = subst (λ (x : Outcome). IsAsRead (λ (file : FileLists). file) x read) is gives
 
 -- where the call answers BadVersion, reading does
-pub given_version : (r : Outcome) (read : Outcome) → Gives (λ (file : FileLists). file) r read → r ≡ Err journal.BadVersion → read ≡ fails journal.BadVersion
-given_version r read gives is = subst (λ (x : Outcome). Gives (λ (file : FileLists). file) x read) is gives
+pub given_version : (r : Outcome) (read : Outcome) → IsAsRead (λ (file : FileLists). file) r read → r ≡ Err journal.BadVersion → read ≡ fails journal.BadVersion
+given_version r read gives is = subst (λ (x : Outcome). IsAsRead (λ (file : FileLists). file) x read) is gives
 
 -- the line that reading stops at is the first that is not of the format
 pub bad_line_is_the_first : (text : List ℕ) (k : ℕ) → length text < 2 ^ 32 → file_in (lines text) ≡ fails (journal.BadLine k) → IsFirstBadLine text k
@@ -178,7 +178,7 @@ another_is_bad_version text o =
     other_is_bad_version (lines text) (record { digits = o.digits; rest = first.0; number = o.number; other = o.other; first = first.1 })
 
 -- where reading answers BadVersion, the call does, or it answers that memory is wanted
-pub given_other : (r : Outcome) (read : Outcome) → Gives (λ (file : FileLists). file) r read → read ≡ fails journal.BadVersion → (r ≡ Err journal.BadVersion) ⊎ (r ≡ Err journal.Memory)
+pub given_other : (r : Outcome) (read : Outcome) → IsAsRead (λ (file : FileLists). file) r read → read ≡ fails journal.BadVersion → (r ≡ Err journal.BadVersion) ⊎ (r ≡ Err journal.Memory)
 given_other (Ok file) read gives is = absurd (apart file (sym gives ∙ is))
   where
     apart : (file : FileLists) → done file ≡ fails journal.BadVersion → ⊥

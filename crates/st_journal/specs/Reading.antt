@@ -21,11 +21,11 @@ error_of fault.Memory line = journal.Memory
 error_of fault.Bad line = journal.BadLine line
 
 -- what a function of the reader answers is what reading gives, but for want of memory
-abbrev pub Gives : {X Y : Type 0} → (X → Y) → Result X JournalError → Result Y JournalError → Type 0
-Gives view (Ok x) read = read ≡ Ok (view x)
-Gives view (Err journal.Memory) read = Unit {0}
-Gives view (Err (journal.BadLine line)) read = read ≡ Err (journal.BadLine line)
-Gives view (Err journal.BadVersion) read = read ≡ Err journal.BadVersion
+abbrev pub IsAsRead : {X Y : Type 0} → (X → Y) → Result X JournalError → Result Y JournalError → Type 0
+IsAsRead view (Ok x) read = read ≡ Ok (view x)
+IsAsRead view (Err journal.Memory) read = Unit {0}
+IsAsRead view (Err (journal.BadLine line)) read = read ≡ Err (journal.BadLine line)
+IsAsRead view (Err journal.BadVersion) read = read ≡ Err journal.BadVersion
 
 -- the number, where it has 8 bits
 abbrev pub byte : ℕ → Option ℕ

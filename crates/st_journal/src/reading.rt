@@ -2,7 +2,7 @@
 ghost use Rattle.std.specs.Prelude.{◌≡◌, ℕ, ◌-◌, ◌<◌, ◌^◌, ◌⊎◌, length, IfOk};
 ghost use Rattle.st_journal.specs.Format.{FileLists, IsFile, journal_text};
 ghost use Rattle.st_journal.specs.Lines.{HasOtherVersion, IsFirstBadLine, lines};
-ghost use Rattle.st_journal.specs.Reading.{Gives};
+ghost use Rattle.st_journal.specs.Reading.{IsAsRead};
 ghost use Rattle.st_journal.specs.Rows.{ended, file_in, no_rows, rows_in, version_in, version_of};
 ghost use Rattle.st_journal.specs.Words.{words_in};
 
@@ -40,7 +40,7 @@ pub fn read(alloc: Global, text: &[u8]) -> Result<JournalFile, JournalError>
 #[tactic(auto, unfolding(crate::specs::Rows::file_in))]
 fn read_file(alloc: Global, text: &[u8]) -> Result<JournalFile, JournalError>
     requires { length text.now < 2 ^ 32 - 1 }
-    ensures { Gives (λ file. file) result (file_in (lines text.now)) }
+    ensures { IsAsRead (λ file. file) result (file_in (lines text.now)) }
 {
     let (first, rest) = first_line(text, VERSION_LINE)?;
     check_version(alloc, first)?;
@@ -60,7 +60,7 @@ fn read_file(alloc: Global, text: &[u8]) -> Result<JournalFile, JournalError>
 /// Whether the first line tells the version that is read.
 #[tactic(auto, unfolding(crate::specs::Rows::version_in))]
 fn check_version(alloc: Global, line: &[u8]) -> Result<(), JournalError>
-    ensures { Gives (λ known. known) result (version_in (words_in line.now)) }
+    ensures { IsAsRead (λ known. known) result (version_in (words_in line.now)) }
 {
     let words = split_words(alloc, line)?;
     match words.as_slice() {
@@ -72,7 +72,7 @@ fn check_version(alloc: Global, line: &[u8]) -> Result<(), JournalError>
 /// Whether these words tell the version that is read.
 #[tactic(auto, unfolding(crate::specs::Rows::version_of))]
 fn known_version(name: &[u8], format: &[u8], version: &[u8]) -> Result<(), JournalError>
-    ensures { Gives (λ known. known) result (version_of name.now format.now version.now) }
+    ensures { IsAsRead (λ known. known) result (version_of name.now format.now version.now) }
 {
     if !is_word(name, b"strobe") {
         return Err(JournalError::BadLine { line: VERSION_LINE });
@@ -92,7 +92,7 @@ fn known_version(name: &[u8], format: &[u8], version: &[u8]) -> Result<(), Journ
 /// The events and verdicts that the lines after the second tell, up to the counts, which the text ends with.
 fn read_rows(alloc: Global, text: &[u8]) -> Result<Rows, JournalError>
     requires { length text.now < 2 ^ 32 - FIRST_ROW }
-    ensures { Gives (λ rows. rows) result (rows_in FIRST_ROW no_rows (lines text.now)) }
+    ensures { IsAsRead (λ rows. rows) result (rows_in FIRST_ROW no_rows (lines text.now)) }
 {
     let mut rows = Rows::new(alloc);
     let mut rest = text;
@@ -118,7 +118,7 @@ fn read_rows(alloc: Global, text: &[u8]) -> Result<Rows, JournalError>
 #[tactic(auto, using(crate::proofs::RowLemmas::nothing_left, crate::proofs::RowLemmas::something_left))]
 fn end_rows(rows: Rows, after: &[u8], line: u32) -> Result<Rows, JournalError>
     requires { line < 2 ^ 32 - 1 }
-    ensures { Gives (λ rows. rows) result (ended line rows (lines after.now)) }
+    ensures { IsAsRead (λ rows. rows) result (ended line rows (lines after.now)) }
 {
     if after.is_empty() {
         Ok(rows)

@@ -14,7 +14,7 @@ use Rattle.st_syntax.specs.Counts as counts
 use Rattle.st_syntax.specs.Counts.{IsFirstExcess, IsWithinCounts, items_of, first_excess}
 use Rattle.st_syntax.specs.FirstFault.{IsUnexpected, IsFirstFault, place_from}
 use Rattle.st_syntax.specs.Grammar.{Parses}
-use Rattle.st_parse.specs.Outcomes.{IsProgramOf, StopsUnexpected, HasTooMany, place_of, error_of, counted_by, counted, read_by, read, then_counted, limited_by, answer, Answers}
+use Rattle.st_parse.specs.Outcomes.{IsProgramOf, StopsUnexpected, HasTooMany, place_of, error_of, counted_by, counted, read_by, read, then_counted, limited_by, answer, IsButForMemory}
 use Rattle.st_reading.specs.Reading.{Outcome, program}
 use Rattle.st_syntax.specs.Terminals.{Terminal, terminal_of, terminals_of}
 use Rattle.st_syntax.specs.TokenLimits as limits
@@ -87,7 +87,7 @@ answer_meant text tokens = by (first_over (terminals_of text tokens)) refl
     by (Some x) e = first_over_meant text tokens x.0 x.1 (some_first limits.excess limits.counted limits.at_start (terminals_of text tokens) (x.0, x.1) e)
 
 -- an answer that is the right one, unless memory ran out, means what it says
-pub told : (text : List ℕ) (tokens : List Token) (r : Result Program ParseError) → Answers r (answer text (terminals_of text tokens)) → Meant text tokens r
+pub told : (text : List ℕ) (tokens : List Token) (r : Result Program ParseError) → IsButForMemory r (answer text (terminals_of text tokens)) → Meant text tokens r
 told text tokens (Err error.Memory) h = tt
 told text tokens (Ok p) h = subst (Meant text tokens) (sym h) (answer_meant text tokens)
 told text tokens (Err (error.Unexpected at)) h = subst (Meant text tokens) (sym h) (answer_meant text tokens)

@@ -83,6 +83,6 @@ unfoldable pub answer : List ℕ → List Terminal → Result Program ParseError
 answer text ts = limited_by text ts (first_over ts)
 
 -- the answer is this one, unless memory runs out
-abbrev pub Answers : Result Program ParseError → Result Program ParseError → Type 0
-Answers (Err error.Memory) wanted = Unit {0}
-Answers result wanted = result ≡ wanted
+abbrev pub IsButForMemory : Result Program ParseError → Result Program ParseError → Type 0
+IsButForMemory (Err error.Memory) wanted = Unit {0}
+IsButForMemory result wanted = result ≡ wanted

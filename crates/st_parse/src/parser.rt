@@ -49,7 +49,7 @@ pub fn parse(alloc: Global, text: &[u8], tokens: &[Token]) -> Result<Program, Pa
 fn answer(alloc: Global, text: &[u8], tokens: &[Token]) -> Result<Program, ParseError>
     requires size { length text.now ≤ MOST_SOURCE_BYTES }
     requires tokens { All (IsToken text.now) tokens.now }
-    ensures { spec.Answers result (spec.answer text.now (terminals_of text.now tokens.now)) }
+    ensures { spec.IsButForMemory result (spec.answer text.now (terminals_of text.now tokens.now)) }
 {
     let lexemes = lexemes_of(alloc, text, tokens)?;
     tree_of(alloc, text, &lexemes)
@@ -59,7 +59,7 @@ fn answer(alloc: Global, text: &[u8], tokens: &[Token]) -> Result<Program, Parse
 #[tactic(auto, unfolding(crate::specs::Outcomes::answer))]
 fn tree_of(alloc: Global, text: &[u8], lexemes: &[Lexeme<'_>]) -> Result<Program, ParseError>
     requires { length text.now ≤ MOST_SOURCE_BYTES }
-    ensures { spec.Answers result (spec.answer text.now lexemes.now) }
+    ensures { spec.IsButForMemory result (spec.answer text.now lexemes.now) }
 {
     match first_over(lexemes) {
         Some((why, at)) => Err(error_of(why, at)),
@@ -124,7 +124,7 @@ fn place_of(text: &[u8], cursor: &Cursor<'_, '_>) -> Site
 #[tactic(auto, unfolding(crate::specs::Outcomes::read))]
 fn read(alloc: Global, text: &[u8], lexemes: &[Lexeme<'_>]) -> Result<Program, ParseError>
     requires { length text.now ≤ MOST_SOURCE_BYTES }
-    ensures { spec.Answers result (spec.read text.now lexemes.now) }
+    ensures { spec.IsButForMemory result (spec.read text.now lexemes.now) }
 {
     let mut cursor = Cursor::make(lexemes);
     match program(alloc, &mut cursor) {
@@ -139,7 +139,7 @@ fn read(alloc: Global, text: &[u8], lexemes: &[Lexeme<'_>]) -> Result<Program, P
 /// The tree, where nothing in it is above its limit.
 #[tactic(auto, unfolding(crate::specs::Outcomes::counted))]
 fn within_counts(alloc: Global, program: Program) -> Result<Program, ParseError>
-    ensures { spec.Answers result (spec.counted program) }
+    ensures { spec.IsButForMemory result (spec.counted program) }
 {
     match first_excess(&items_of(alloc, &program)?) {
         Some((what, at)) => Err(ParseError::TooMany { what, at }),

@@ -9,7 +9,7 @@ use Rattle.st_syntax.specs.Sorts.{same_sort}
 use Rattle.st_syntax.specs.Terminals.{Terminal, Is, next_sort}
 use Rattle.st_reading.specs.Reading.{Outcome, Reader, and_then, ◌>>=◌, ◌>>◌, pure, ◌<$>◌, sees, take_any, expect, if_shorter, turns_from, turns, one_more, many, is_sort, listed, enclosed}
 use Rattle.st_grammar.specs.Charts.{Symbol, token, part, choice_at, sort_of_next, goes}
-use Rattle.st_grammar.specs.Reads.{Goes, Stops, Reads}
+use Rattle.st_grammar.specs.Reads.{Goes, Stops, FollowsChart}
 use Rattle.st_grammar.proofs.ReaderLemmas.{goes_nowhere, stops_first, reads_on, reads_part, stops_stuck, goes_token, stops_token, stops_end}
 use Rattle.st_reading.proofs.Chart.{Part, Symbols, grammar}
 use Rattle.st_reading.proofs.ChoiceLemmas.{chosen, at_next}
@@ -18,7 +18,7 @@ use Rattle.st_reading.proofs.SoundLemmas.{Spelled, Sound}
 
 -- a reader of these symbols answers so
 abbrev pub Follows : {A : Type 0} → Symbols → List Terminal → Outcome A → Type 0
-Follows cs ts o = Reads grammar cs ts o
+Follows cs ts o = FollowsChart grammar cs ts o
 
 -- some symbols, and then more
 pub follows_then : {A B : Type 0} (cs ds : Symbols) (ts : List Terminal) (o : Outcome A) (f : A → Reader B) → Follows cs ts o

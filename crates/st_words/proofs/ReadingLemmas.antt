@@ -10,7 +10,7 @@ use Rattle.clap.specs.declared.error.Error.{Error}
 use Rattle.clap.specs.declared.parser.matches.ArgMatches.{ArgMatches}
 use Rattle.st_words.specs.declared.errors.WordsError.{WordsError}
 use Rattle.st_words.specs.declared.errors.WordsError.TheVariants.{Memory, Refused}
-use Rattle.st_words.specs.Accepted.{accepted_words, command_value, Answers}
+use Rattle.st_words.specs.Accepted.{accepted_words, command_value, IsAnswerTo}
 use Rattle.st_words.specs.Command.{command_line}
 use Rattle.st_words.proofs.BuildingLemmas.{line_is_simple, line_is_simple_and_free}
 
@@ -42,7 +42,7 @@ not_refused e = absurd cc
 
 -- the answer to an error of clap
 pub refused_by : (app : App) (words : List Text) (e : Error) (kind : ErrorKind) (why : WordsError) → app ≡ command_line → kind ≡ kind_of e
-    → (is_simple_and_free app ≡ true → HasKind (fault_of app words) e) → (why ≡ Memory) ↔ (kind ≡ OutOfMemory) → Answers (accepted_words words) (Err why)
+    → (is_simple_and_free app ≡ true → HasKind (fault_of app words) e) → (why ≡ Memory) ↔ (kind ≡ OutOfMemory) → IsAnswerTo (accepted_words words) (Err why)
 refused_by app words e kind Memory is of kinds memory = tt
 refused_by app words e kind Refused is of kinds memory =
     let found : HasKind (fault_of command_line words) e = subst (λ (a : App). HasKind (fault_of a words) e) is (kinds (ap is_simple_and_free is ∙ line_is_simple_and_free)) in

@@ -108,10 +108,10 @@ unfoldable pub accepted_words : List Text → Option Words
 accepted_words words = if is_empty (fault_of command_line words) then command_value (subcommand_of command_line words) else None
 
 -- an answer that is not for want of memory is this: the value, or refused where there is none
-abbrev pub Answers : {X : Type 0} → Option X → Result X WordsError → Type 0
-Answers told (Ok value) = told ≡ Some value
-Answers told (Err Memory) = ⊤
-Answers told (Err Refused) = told ≡ None
+abbrev pub IsAnswerTo : {X : Type 0} → Option X → Result X WordsError → Type 0
+IsAnswerTo told (Ok value) = told ≡ Some value
+IsAnswerTo told (Err Memory) = ⊤
+IsAnswerTo told (Err Refused) = told ≡ None
 
 -- the numbers of a run are within the table of limits
 pub record AreWithin (checkers lanes objects copies events calls : ℕ) : Type 0 where

@@ -3,7 +3,7 @@ ghost use Rattle.std.specs.Prelude.{◌≡◌, ◌↔◌, option_map, IfOk, IfSo
 ghost use Rattle.st_words.specs.declared.words.Words.TheVariants.{Run, Audit, Gen, Demo};
 ghost use Rattle.clap.specs.Words.{found_of, rows_of, subcommand_rows_of};
 ghost use Rattle.clap.specs.declared.error.ErrorKind.TheVariants.{OutOfMemory};
-ghost use Rattle.st_words.specs.Accepted.{accepted_words, audit_of, check_of, command_value, run_of, run_with as run_told, texts, turns_of as turns_told_of, value_of, Answers, AreWithin, HasFittingNumbers};
+ghost use Rattle.st_words.specs.Accepted.{accepted_words, audit_of, check_of, command_value, run_of, run_with as run_told, texts, turns_of as turns_told_of, value_of, IsAnswerTo, AreWithin, HasFittingNumbers};
 ghost use Rattle.st_words.specs.declared.errors.WordsError.TheVariants.{Memory};
 
 use crate::choices::{Numbers, Way};
@@ -18,7 +18,7 @@ use std::alloc::Global;
 /// What the words say, which are without the program's name: a command, its names, and its options and flags before, between
 /// and after them. `Refused` comes exactly where the words are none that the program accepts, but for want of memory.
 pub fn read_words(alloc: Global, words: &[String]) -> Result<Words, WordsError>
-    ensures accepted { Answers (accepted_words (texts words.now)) result }
+    ensures accepted { IsAnswerTo (accepted_words (texts words.now)) result }
     ensures limits { IfOk result HasFittingNumbers }
 {
     let line = command_line(alloc)?;
@@ -41,7 +41,7 @@ fn refusal(kind: ErrorKind) -> WordsError
 
 /// What the words say by what clap found.
 fn value_of_matches(alloc: Global, matches: &ArgMatches) -> Result<Words, WordsError>
-    ensures accepted { Answers (command_value (subcommand_rows_of matches.now)) result }
+    ensures accepted { IsAnswerTo (command_value (subcommand_rows_of matches.now)) result }
     ensures limits { IfOk result HasFittingNumbers }
 {
     match matches.subcommand() {
@@ -53,7 +53,7 @@ fn value_of_matches(alloc: Global, matches: &ArgMatches) -> Result<Words, WordsE
 /// What a command of this name says by what clap found for it.
 #[tactic(auto, unfolding(crate::specs::Accepted::value_of))]
 fn value_of_command(alloc: Global, name: &str, found: &ArgMatches) -> Result<Words, WordsError>
-    ensures accepted { Answers (value_of name.now (rows_of (found_of found.now))) result }
+    ensures accepted { IsAnswerTo (value_of name.now (rows_of (found_of found.now))) result }
     ensures limits { IfOk result HasFittingNumbers }
 {
     if name == "run" {
@@ -73,7 +73,7 @@ fn value_of_command(alloc: Global, name: &str, found: &ArgMatches) -> Result<Wor
 
 /// `run FILE`.
 fn run_words(alloc: Global, found: &ArgMatches) -> Result<Words, WordsError>
-    ensures accepted { Answers (run_of (rows_of (found_of found.now))) result }
+    ensures accepted { IsAnswerTo (run_of (rows_of (found_of found.now))) result }
     ensures limits { IfOk result HasFittingNumbers }
 {
     match asked_of(found) {
@@ -117,7 +117,7 @@ fn run_with(file: FileName, numbers: Numbers, way: Way) -> RunWords
 /// `check FILE`.
 #[tactic(auto, unfolding(crate::specs::Accepted::check_of))]
 fn check_words(alloc: Global, found: &ArgMatches) -> Result<Words, WordsError>
-    ensures accepted { Answers (check_of (rows_of (found_of found.now))) result }
+    ensures accepted { IsAnswerTo (check_of (rows_of (found_of found.now))) result }
     ensures limits { IfOk result HasFittingNumbers }
 {
     match text_of(found, "file") {
@@ -131,7 +131,7 @@ fn check_words(alloc: Global, found: &ArgMatches) -> Result<Words, WordsError>
 
 /// `audit FILE JOURNAL`.
 fn audit_words(alloc: Global, found: &ArgMatches) -> Result<Words, WordsError>
-    ensures accepted { Answers (audit_of (rows_of (found_of found.now))) result }
+    ensures accepted { IsAnswerTo (audit_of (rows_of (found_of found.now))) result }
     ensures limits { IfOk result HasFittingNumbers }
 {
     match names_of(found) {
@@ -156,7 +156,7 @@ fn names_of<'a>(found: &ArgMatches<'a>) -> Option<(&'a str, &'a str)>
 
 /// `gen N`.
 fn gen_words(found: &ArgMatches) -> Result<Words, WordsError>
-    ensures accepted { Answers (option_map (λ n. Gen n) (turns_told_of (rows_of (found_of found.now)))) result }
+    ensures accepted { IsAnswerTo (option_map (λ n. Gen n) (turns_told_of (rows_of (found_of found.now)))) result }
     ensures limits { IfOk result HasFittingNumbers }
 {
     match turns_of(found) {
@@ -167,7 +167,7 @@ fn gen_words(found: &ArgMatches) -> Result<Words, WordsError>
 
 /// `demo N`.
 fn demo_words(found: &ArgMatches) -> Result<Words, WordsError>
-    ensures accepted { Answers (option_map (λ n. Demo n) (turns_told_of (rows_of (found_of found.now)))) result }
+    ensures accepted { IsAnswerTo (option_map (λ n. Demo n) (turns_told_of (rows_of (found_of found.now)))) result }
     ensures limits { IfOk result HasFittingNumbers }
 {
     match turns_of(found) {

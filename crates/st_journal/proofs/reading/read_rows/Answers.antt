@@ -1,7 +1,7 @@
 use Rattle.std.proofs.Common.{◌≡◌, ◌∙◌, sym, ap, subst, true, false, Result, arith}
 use Rattle.st_journal.specs.declared.errors.JournalError.{JournalError}
 use Rattle.st_journal.specs.Lines.{lines}
-use Rattle.st_journal.specs.Reading.{Gives}
+use Rattle.st_journal.specs.Reading.{IsAsRead}
 use Rattle.st_journal.specs.Rows.{RowLists, rows_in, line_step}
 use Rattle.st_journal.proofs.RowLemmas.{step_is, rows_go_on, rows_end, fault_gives, missing_gives}
 use Rattle.st_journal.proofs.reading.read_rows.Goals as goal
@@ -31,7 +31,7 @@ returns-then-is_last c =
     rows_end c.loop-parts.line c.loop-parts.rows c.take_line.new.self (lines c.loop-parts.rest.now) c.in-Ok.parts.0.now
     (lines c.in-Ok.parts.1.now) c.in-Ok.ensures.parts takes
     in
-    subst (λ (told : Result RowLists JournalError). Gives (λ (rows : RowLists). rows) c.end_rows.result told) (sym ends ∙ c.loop-parts.invariant.0)
+    subst (λ (told : Result RowLists JournalError). IsAsRead (λ (rows : RowLists). rows) c.end_rows.result told) (sym ends ∙ c.loop-parts.invariant.0)
     c.end_rows.ensures
 
 pub overflow_add-line : goal.overflow_add-line
