@@ -32,30 +32,35 @@ headline_of_call None fb fn outcome before now ended = nothing outcome.ran
     nothing (Some r) = tt
 headline_of_call (Some call) fb fn outcome before now ended = ended_call_has_headline call fb fn outcome before now ended
 
+-- for the clause `ran`: there is a run exactly where one was done
 pub run_of_call : (accepted : Option Words) (fb fn : FilesState) (outcome : Outcome) (before now : SinkState)
     → IfSome accepted (EndedWith fb fn outcome before now)
     → IfSome accepted (λ call. IsSome outcome.ran ↔ (IsSome (order_of fb.told call) × IsDoneStatus outcome.status))
 run_of_call accepted fb fn outcome before now =
     follows accepted (EndedWith fb fn outcome before now) _ (λ call h. ended_call_has_its_run call fb fn outcome before now h)
 
+-- for the clause `done`: with the status of a command that was done it was done, and its output is written
 pub done_of_call : (accepted : Option Words) (fb fn : FilesState) (outcome : Outcome) (before now : SinkState)
     → IfSome accepted (EndedWith fb fn outcome before now)
     → IfSome accepted (λ call. IsDoneStatus outcome.status → IsDoneCall fb.told call outcome before now)
 done_of_call accepted fb fn outcome before now =
     follows accepted (EndedWith fb fn outcome before now) _ (λ call h. done_status_tells_done call fb fn outcome before now h)
 
+-- for the clause `refused`: with the status of a refusal there is a cause, and the line of the refusal was put
 pub refusal_of_call : (accepted : Option Words) (fb fn : FilesState) (outcome : Outcome) (before now : SinkState)
     → IfSome accepted (EndedWith fb fn outcome before now)
     → IfSome accepted (λ call. IsRefusalStatus outcome.status → IsRefusedCall call fb fn outcome before now)
 refusal_of_call accepted fb fn outcome before now =
     follows accepted (EndedWith fb fn outcome before now) _ (λ call h. refusal_status_tells_refused call fb fn outcome before now h)
 
+-- for the clause `input`: 3 comes exactly where not all that is read is accepted
 pub input_of_call : (accepted : Option Words) (fb fn : FilesState) (outcome : Outcome) (before now : SinkState)
     → IfSome accepted (EndedWith fb fn outcome before now)
     → IfSome accepted (λ call. IsRefusedExactly fb.told call outcome.status)
 input_of_call accepted fb fn outcome before now =
     follows accepted (EndedWith fb fn outcome before now) _ (λ call h. input_is_refused_exactly call fb fn outcome before now h)
 
+-- for the clause `complete`: accepted inputs and no fault leave a status of the command, or 7
 pub complete_of_call : (accepted : Option Words) (fb fn : FilesState) (outcome : Outcome) (before now : SinkState)
     → IfSome accepted (EndedWith fb fn outcome before now)
     → IfSome accepted (λ call. IsComplete call fb fn outcome.status before now)
@@ -74,11 +79,13 @@ refused_words_tell_no n outcome before now not_two not_seven refused is = elim (
   | inr seven ↦ not_seven (sym is ∙ seven)
 ]
 
+-- for the clause `words`: 2 comes only where the words are none that the program takes
 pub words_of_call : (accepted : Option Words) (fb fn : FilesState) (outcome : Outcome) (before now : SinkState)
     → IfSome accepted (EndedWith fb fn outcome before now) → outcome.status ≡ 2 → accepted ≡ None
 words_of_call None fb fn outcome before now ended two = refl
 words_of_call (Some call) fb fn outcome before now ended two = absurd (accepted_words_are_not_refused call fb fn outcome before now ended two)
 
+-- for the clause `read_fault`: 5 comes only where the count of the files' faults rose
 pub read_fault_of_call : (accepted : Option Words) (fb fn : FilesState) (outcome : Outcome) (before now : SinkState)
     → IfSome accepted (EndedWith fb fn outcome before now) → (accepted ≡ None → AreWordsRefused outcome before now)
     → outcome.status ≡ 5 → RoseBy 1 fb.faults fn.faults
@@ -86,6 +93,7 @@ read_fault_of_call None fb fn outcome before now ended refused five =
     absurd (refused_words_tell_no 5 outcome before now (λ e. omega (arith, e)) (λ e. omega (arith, e)) (refused refl) five)
 read_fault_of_call (Some call) fb fn outcome before now ended refused five = read_fault_comes_by_count call fb fn outcome before now ended five
 
+-- for the clause `write_fault`: 6 comes only where the count of the sink's faults rose
 pub write_fault_of_call : (accepted : Option Words) (fb fn : FilesState) (outcome : Outcome) (before now : SinkState)
     → IfSome accepted (EndedWith fb fn outcome before now) → (accepted ≡ None → AreWordsRefused outcome before now)
     → outcome.status ≡ 6 → RoseBy 1 before.faults now.faults
@@ -98,6 +106,7 @@ refused_words_leave_no_run : (outcome : Outcome) (before now : SinkState) → Ar
 refused_words_leave_no_run outcome before now (inl h) = h.ran
 refused_words_leave_no_run outcome before now (inr h) = h.ran
 
+-- for the clause `run_status`: a run that was written whole has the status of its verdicts and ends
 pub run_status_of_call : (accepted : Option Words) (fb fn : FilesState) (outcome : Outcome) (before now : SinkState)
     → IfSome accepted (EndedWith fb fn outcome before now) → (accepted ≡ None → AreWordsRefused outcome before now)
     → IfSome outcome.ran (λ ran. outcome.status ≢ 6 → HasRunStatus outcome.status ran)
@@ -126,6 +135,7 @@ complete_on_text accepted text fb fn status before now told no_read no_write =
     follows accepted (λ call. IsComplete call fb fn status before now) _ (λ call complete input.
     complete (subst (λ (t : Told). IsInputTold t call) (sym told) (all_is_told text call)) (subst (λ (t : Told). IsInputAccepted t call) (sym told) input) no_read no_write)
 
+-- the same where nothing can fail to be written
 pub run_status_on_text : (status : ℕ) (ran : Option RanLists) → (status ≡ 6 → ⊥)
     → IfSome ran (λ r. status ≢ 6 → HasRunStatus status r) → IfSome ran (λ r. HasRunStatus status r)
 run_status_on_text status None no_fault h = tt

@@ -35,6 +35,7 @@ holds_of_tree tree shape numbers P same also h = subst (λ (p : Numbers). P (sha
 pub run_has_used_args : (shape : ShapeLists) (p : Numbers) (sizes : Sizes) (ran : RanLists) → IsWithinLimits shape → IsRightRun shape p sizes ran → All HasUsedArgs ran.journal
 run_has_used_args shape p sizes ran fits right = legal_journal_has_used_args shape sizes ran.journal fits right.legal
 
+-- a run that is the scheduled one has a journal text
 pub run_is_short : (shape : ShapeLists) (p : Numbers) (sizes : Sizes) (seed : ℕ) (ran : RanLists)
     → IsWellFormed shape p → AreWithinLimits sizes → ran ≡ scheduled_run shape p sizes seed → IsShort ran
 run_is_short shape p sizes seed ran formed limits is = subst IsShort (sym is) (scheduled_run_is_short shape p sizes seed formed limits)
@@ -45,6 +46,7 @@ same_left : (text output : List ℕ) (own status : ℕ) (ran : Option RanLists) 
     → ◌≡◌ {A = Left} (record { output = output; status = status; ran = ran }) (record { output = text; status = own; ran = ran })
 same_left text output own status ran same also = λ i. record { output = same i; status = also i; ran = ran }
 
+-- a run with the sizes and the seed of the order is the one that was ordered
 pub run_is_as_ordered : (order : Order) (tree : Program) (sizes : Sizes) (ran : RanLists) (output : List ℕ) (status : ℕ)
     → sizes ≡ order.sizes (mutators_of tree)
     → ran ≡ scheduled_run (shape_of tree) (resolution tree) sizes order.seed
@@ -66,17 +68,20 @@ run_is_as_ordered order tree sizes ran output status asked by_seed right text ow
 
 -- ---- sources that are checked and generated
 
+-- the line of counts is that of `check`
 pub source_is_checked : (source : Option (List ℕ)) (tree : Program) (output : List ℕ)
     → output ≡ accepted_line tree
     → IfSome source (λ text. IsSourceOf text tree)
     → IsChecked source (record { output = output; status = 0; ran = None })
 source_is_checked source tree output text accepted = record { program = tree; accepted = accepted; is_left = same_left (accepted_line tree) output 0 0 None text refl }
 
+-- the text of a number is what `gen` leaves
 pub source_is_generated : (n : ℕ) (output : List ℕ) → output ≡ source_text n → IsGenerated n (record { output = output; status = 0; ran = None })
 source_is_generated n output text = same_left (source_text n) output 0 0 None text refl
 
 -- ---- audits
 
+-- the answer of the audit is what `audit` leaves
 pub journal_is_audited : (source journal : Option (List ℕ)) (tree : Program) (file : FileLists) (found : Option Finding) (output : List ℕ) (status : ℕ)
     → IsFile file
     → IsAnswer tree file found
@@ -98,8 +103,10 @@ journal_is_audited source journal tree file found output status fits answer text
 
 -- ---- want of memory
 
+-- want of memory is a cause for any source
 pub memory_is_a_source_cause : (told : Option (List ℕ)) (before now : FilesState) (refusal : Refusal) → refusal ≡ NoMemory → IsSourceCause told before now refusal
 memory_is_a_source_cause told before now refusal is = subst (IsSourceCause told before now) (sym is) tt
 
+-- and for any journal
 pub memory_is_a_journal_cause : (told : Option (List ℕ)) (before now : FilesState) (refusal : Refusal) → refusal ≡ NoMemory → IsJournalCause told before now refusal
 memory_is_a_journal_cause told before now refusal is = subst (IsJournalCause told before now) (sym is) tt

@@ -65,6 +65,7 @@ run_status_says : (ran : RanLists) (status : ℕ) → status ≡ run_status ran
 unfolding run_status
 run_status_says ran status is = says_of_tests (list_any is_unfinished ran.ends) (list_any is_fault ran.verdicts) (list_any is_undecided ran.verdicts) status is
 
+-- the status of a run, by its order: 4, then 1, then 8
 pub run_has_its_status : (ran : RanLists) (status : ℕ) → status ≡ run_status ran → HasRunStatus status ran
 run_has_its_status ran status is =
     let says = run_status_says ran status is in
@@ -82,6 +83,7 @@ audit_has_status : (found : Option Finding) (status : ℕ) → status ≡ audit_
 audit_has_status None status is = inl is
 audit_has_status (Some finding) status is = inr is
 
+-- what a command leaves has one of the statuses of that command
 pub left_has_status : (told : Told) (call : Words) (left : Left) → IsDone told call left → IsStatusOf call left.status
 left_has_status told (words.Run call) left done = run_left_has_status (run_order (told call.file) call) left done
 left_has_status told (words.Check file) left done = ap (λ (l : Left). l.status) done.is_left
@@ -150,6 +152,7 @@ no_run_has_headline : (told : Told) (call : Words) (left : Left) (outcome : Outc
 no_run_has_headline told call left outcome before now none same =
     subst (λ (o : Option RanLists). IfSome o (λ ran. HasHeadline told call outcome.status ran before now)) (sym (same ∙ none)) tt
 
+-- a run that was done has the headline
 pub done_call_has_headline : (told : Told) (call : Words) (outcome : Outcome) (before now : SinkState)
     → IsDoneCall told call outcome before now → IfSome outcome.ran (λ ran. HasHeadline told call outcome.status ran before now)
 done_call_has_headline told (words.Run call) outcome before now h =
@@ -170,6 +173,7 @@ is_some_of a b ran same is = rw (same ∙ is) refl
 is_none_of : (a b : Option RanLists) → a ≡ b → b ≡ None → IsSome a → ⊥
 is_none_of a b same none there = let no : a ≡ None = same ∙ none in cc
 
+-- a command that was done left a run exactly where it is one that runs
 pub done_call_has_its_run : (told : Told) (call : Words) (outcome : Outcome) (before now : SinkState)
     → IsDoneCall told call outcome before now → IsSome outcome.ran ↔ IsSome (order_of told call)
 done_call_has_its_run told (words.Run call) outcome before now h =

@@ -105,6 +105,7 @@ three_is_told refusal.JournalTooLong call fb fn status is cause no_fault some = 
 three_is_told (refusal.JournalLine number) call fb fn status is cause no_fault some = is
 three_is_told refusal.JournalVersion call fb fn status is cause no_fault some = is
 
+-- 3 comes only where not all that is read is accepted, and wherever something told is not, but for 5 and 7
 pub input_is_refused_exactly : (call : Words) (fb fn : FilesState) (outcome : Outcome) (before now : SinkState)
     → IsEnded call fb fn outcome before now → IsRefusedExactly fb.told call outcome.status
 input_is_refused_exactly call fb fn outcome before now (inl done) = record {

@@ -21,6 +21,7 @@ pub threads_are_as_many : (tree : Program) → length (resolution tree).threads 
 unfolding resolution
 threads_are_as_many tree = walked_are_as_many (walk_thread tree) [] (walked_procs tree).checks tree.threads
 
+-- the resolved program names the threads of the tree, in order
 pub numbers_have_the_threads : (tree : Program) (resolved : Resolved) → program_of resolved ≡ resolution tree → length (program_of resolved).threads ≡ mutators_of tree
 numbers_have_the_threads tree resolved same = ap (λ (p : Numbers). length p.threads) same ∙ threads_are_as_many tree
 
@@ -29,6 +30,7 @@ places_stay : (checks : List Check) → map (λ check. check.at) (map check_of c
 places_stay [] = refl
 places_stay (check ∷ checks) = ap (λ (rest : List Site). check.at ∷ rest) (places_stay checks)
 
+-- the resolved program has the places of the tree's check statements, in order
 pub numbers_have_the_places : (tree : Program) (resolved : Resolved) → program_of resolved ≡ resolution tree → map (λ check. check.at) resolved.checks ≡ places_of tree
 numbers_have_the_places tree resolved same = sym (places_stay resolved.checks) ∙ ap (λ (p : Numbers). map (λ check. check.at) p.checks) same
 
@@ -37,6 +39,7 @@ checks_stay : (checks : List Check) → length (map check_of checks) ≡ length 
 checks_stay [] = refl
 checks_stay (check ∷ checks) = ap suc (checks_stay checks)
 
+-- the resolved program has as many check statements as the tree
 pub numbers_have_the_checks : (tree : Program) (resolved : Resolved) → program_of resolved ≡ resolution tree → length resolved.checks ≡ length (resolution tree).checks
 numbers_have_the_checks tree resolved same = sym (checks_stay resolved.checks) ∙ ap (λ (p : Numbers). length p.checks) same
 

@@ -15,9 +15,11 @@ pub record HasPut (before : Option (List ℕ)) (text rest : List ℕ) (now : Opt
   pub whole : text ≡ front ++ rest
   pub grew : Grows before front now
 
+-- at first nothing is put, and all of the text is left
 pub nothing_is_put : (before : Option (List ℕ)) (text : List ℕ) → HasPut before text text before
 nothing_is_put before text = record { front = []; whole = refl; grew = nothing_is_growth_by_nothing before }
 
+-- a line that was put stands behind what was put before
 pub one_line_more_is_put :
     {before between now : Option (List ℕ)} {text rest : List ℕ} (line more : List ℕ)
     → HasPut before text rest between
@@ -34,11 +36,13 @@ nothing_is_left : (rest : List ℕ) → length rest ≡ 0 → rest ≡ []
 nothing_is_left [] none = refl
 nothing_is_left (byte ∷ rest) none = absurd (omega (arith, none))
 
+-- where nothing is left the whole text was put
 pub all_is_put : {before now : Option (List ℕ)} {text : List ℕ} (rest : List ℕ) → HasPut before text rest now → length rest ≡ 0 → Grows before text now
 all_is_put {before} {now} {text} rest put none =
     let all : text ≡ put.front = put.whole ∙ ap (λ (left : List ℕ). put.front ++ left) (nothing_is_left rest none) ∙ append-nil put.front in
     subst (λ (front : List ℕ). Grows before front now) (sym all) put.grew
 
+-- a put that failed leaves a front of the text
 pub put_stopped_in_a_line :
     {before between now : Option (List ℕ)} {text rest : List ℕ} (line more : List ℕ)
     → HasPut before text rest between

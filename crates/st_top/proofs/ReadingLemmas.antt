@@ -32,6 +32,7 @@ told_text_has_its_cause told text before now JournalTooLong same cause = absurd 
 told_text_has_its_cause told text before now (JournalLine number) same cause = absurd cause
 told_text_has_its_cause told text before now JournalVersion same cause = absurd cause
 
+-- the cause of a refusal of a journal text is one of the refusal of its file
 pub told_journal_has_its_cause : (told : Option (List ℕ)) (text : List ℕ) (before now : FilesState) (refusal : Refusal)
     → AreTold told text → IsJournalTextCause text refusal → IsJournalCause told before now refusal
 told_journal_has_its_cause told text before now NoMemory same cause = tt
@@ -62,11 +63,13 @@ refused_is_no_journal text result why is not_memory again found = elim (again fo
   | inr memory ↦ not_memory (cc)
 ]
 
+-- a text in which a bad line was told is no journal
 pub bad_line_is_no_journal : (text : List ℕ) (result : Result FileLists JournalError) (number : ℕ) → result ≡ Err (journal.BadLine number)
     → ((file : FileLists) → IsFile file → text ≡ journal_text file → (result ≡ Ok file) ⊎ (result ≡ Err journal.Memory))
     → IsJournalText text → ⊥
 bad_line_is_no_journal text result number is again found = refused_is_no_journal text result (journal.BadLine number) is (λ e. cc) again found
 
+-- a text of another version is no journal
 pub bad_version_is_no_journal : (text : List ℕ) (result : Result FileLists JournalError) → result ≡ Err journal.BadVersion
     → ((file : FileLists) → IsFile file → text ≡ journal_text file → (result ≡ Ok file) ⊎ (result ≡ Err journal.Memory))
     → IsJournalText text → ⊥
@@ -79,6 +82,7 @@ pub each_ok : {A E : Type 0} (result : Result A E) (P Q : A → Type 0) → ((a 
 each_ok (Ok a) P Q rule h = rule a h
 each_ok (Err e) P Q rule h = tt
 
+-- what follows of each error
 pub each_err : {A E : Type 0} (result : Result A E) (P Q : E → Type 0) → ((e : E) → P e → Q e) → IfErr result P → IfErr result Q
 each_err (Ok a) P Q rule h = tt
 each_err (Err e) P Q rule h = rule e h

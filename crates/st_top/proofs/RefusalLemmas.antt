@@ -47,6 +47,7 @@ done_is_another n (inr (inr (inr (inr p)))) (inr (inl q)) = omega (arith, p, q)
 done_is_another n (inr (inr (inr (inr p)))) (inr (inr (inl q))) = omega (arith, p, q)
 done_is_another n (inr (inr (inr (inr p)))) (inr (inr (inr q))) = omega (arith, p, q)
 
+-- no refusal has the status of a command that was done
 pub done_is_no_refusal : (refusal : Refusal) (status : ℕ) → status ≡ refusal_status refusal → IsDoneStatus status → ⊥
 done_is_no_refusal refusal status is done = done_is_another (refusal_status refusal) (subst IsDoneStatus is done) (status_of_refusal refusal)
 
@@ -61,6 +62,7 @@ words_are_no_cause (words.Audit file journal) before now (inr cause) = cause
 words_are_no_cause (words.Gen n) before now cause = cc
 words_are_no_cause (words.Demo n) before now cause = cause
 
+-- status 2 is that of wrong words alone
 pub two_tells_words : (refusal : Refusal) → refusal_status refusal ≡ 2 → refusal ≡ Words
 two_tells_words Words is = refl
 two_tells_words NoMemory is = absurd (omega (arith, is))
@@ -82,6 +84,7 @@ five_tells_a_fault JournalTooLong is = absurd (omega (arith, is))
 five_tells_a_fault (JournalLine number) is = absurd (omega (arith, is))
 five_tells_a_fault JournalVersion is = absurd (omega (arith, is))
 
+-- a read fault that a command told was counted by the files
 pub read_fault_was_counted : (call : CallWords) (before now : FilesState) → HasCause call before now ReadFault → RoseBy 1 before.faults now.faults
 read_fault_was_counted (words.Run call) before now cause = cause
 read_fault_was_counted (words.Check file) before now cause = cause

@@ -68,6 +68,7 @@ legal_events_have_used_args shape sizes fits w [] legal = λ k d below. absurd (
 legal_events_have_used_args shape sizes fits w (e ∷ es) legal =
     All-cons HasUsedArgs e es (legal_event_has_used_args shape sizes fits w e legal.0) (legal_events_have_used_args shape sizes fits (next shape sizes w e) es legal.1)
 
+-- the launches of a legal journal use no more words than they count, so its text tells them
 pub legal_journal_has_used_args : (shape : ShapeLists) (sizes : Sizes) (es : List Event) → IsWithinLimits shape → IsLegal shape sizes es → All HasUsedArgs es
 unfolding IsLegal
 legal_journal_has_used_args shape sizes es fits legal = legal_events_have_used_args shape sizes fits (first_world shape) es legal
@@ -99,14 +100,17 @@ sound_end_is_short : (shape : ShapeLists) (p : Program) (sizes : Sizes) (s : Sta
 sound_end_is_short shape p sizes s limits sound =
     let room = sound_state_has_room shape p sizes s sound in
     let most : sizes.mutators * sizes.events ≤ 8388608 = most_room sizes.mutators sizes.events limits.mutators limits.events.1 in
-    let ended : length (retires sizes.mutators (active_checks shape sizes s.journal)) ≡ length (active_checks shape sizes s.journal) = length-map (active_checks shape sizes s.journal) (λ (n : ℕ). Retire sizes.mutators n) in
+    let ended : length (retires sizes.mutators (active_checks shape sizes s.journal)) ≡ length (active_checks shape sizes s.journal) =
+    length-map (active_checks shape sizes s.journal) (λ (n : ℕ). Retire sizes.mutators n) in
     let joined = length-append s.journal (retires sizes.mutators (active_checks shape sizes s.journal)) in
-    let told : length (ran_of shape p sizes s).verdicts ≡ epoch_of shape sizes s.journal = length-map-range_with_len (λ (n : ℕ). verdict_of p sizes (launch_of shape sizes s.journal n) (s.progress n)) 1 (epoch_of shape sizes s.journal) in
+    let told : length (ran_of shape p sizes s).verdicts ≡ epoch_of shape sizes s.journal =
+    length-map-range_with_len (λ (n : ℕ). verdict_of p sizes (launch_of shape sizes s.journal n) (s.progress n)) 1 (epoch_of shape sizes s.journal) in
     record {
       events = let events = room.events in omega (arith, events, most, ended, joined);
       verdicts = let checks = room.checks in omega (arith, checks, most, told);
     }
 
+-- a scheduled run has fewer events, and fewer verdicts, than 2^32: its journal has a text
 pub scheduled_run_is_short :
     (shape : ShapeLists) (p : Program) (sizes : Sizes) (seed : ℕ)
     → IsWellFormed shape p
