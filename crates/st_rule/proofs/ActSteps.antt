@@ -10,7 +10,7 @@ use Rattle.st_layout.specs.Names.{ClosingWord, ClockWord, EpochWord, AvailableWo
 use Rattle.st_layout.specs.Names.{CopyWord, FreeWord, cells_of}
 use Rattle.st_layout.specs.declared.limits.TheConstants.{MOST_FIELDS}
 use Rattle.st_layout.specs.Layout.{word_of}
-use Rattle.st_layout.specs.Packed.{packed, low_half}
+use Rattle.st_layout.specs.Packed.{packed, high_half, low_half}
 use Rattle.st_events.specs.World.{at, is_among}
 use Rattle.st_rule.specs.declared.views.Flight.{Flight}
 use Rattle.st_rule.specs.declared.views.Held.{Held}
@@ -25,7 +25,7 @@ use Rattle.st_rule.specs.Draws.{MayLock, MayUnlock, HasInHand, AwaitsField, Awai
 use Rattle.st_rule.specs.Holding.{Holds, holding, flight_of, shown_stamp, word_loaded}
 use Rattle.st_rule.specs.Board.{stays_loaded}
 use Rattle.st_rule.specs.Parts.{Sits, HasLoaded, ObjectPart}
-use Rattle.st_rule.specs.Plays.{Seated, Becomes, Learns, LoadsBoard, IsBoardWord, Locks}
+use Rattle.st_rule.specs.Plays.{Seated, Becomes, LooksLast, LoadsBoard, IsBoardWord, Locks}
 use Rattle.st_rule.specs.Rule.{Told, Moment, HoldsAt, IsSoundTable, world_of, flights_of, CopiesAt}
 use Rattle.st_rule.specs.Turns.{looked_last, board_loaded, locked_at, locked, unlocked, field_found, word_written, with_field, with_written, landed}
 use Rattle.st_rule.proofs.BoardLemmas.{load_displays}
@@ -45,7 +45,7 @@ module _ (told : Told) (slots id : ℕ) (me : Seated) (v : MutView) (is : me.0 �
   -- last look
   pub last_look_keeps :
       (word : ℕ) → word ≡ word_of (plan_of told.terms.sizes) ClockWord
-      → Allows (IsSoundTable told) slots id me word (λ n. n) (Learns looked_last me)
+      → Allows (IsSoundTable told) slots id me word (λ n. n) (LooksLast me)
   last_look_keeps word is_word s sound wide at_id _ =
       let sits : Sits s.views id (Mut v) = at_id ∙ ap some is in
       let m = sound.0 in
@@ -59,7 +59,10 @@ module _ (told : Told) (slots id : ℕ) (me : Seated) (v : MutView) (is : me.0 �
             (same_loaded (plan_of told.terms.sizes) m.board v w refl refl (h.loaded_part.loaded id v sits)) refl
             (record { words = set s.words word found; homes = s.homes; views = set s.views id (Mut w) }) refl
             (load_displays (plan_of told.terms.sizes) s.words m.board word h.displayed),
-        learns looked_last me v found m.journal w is refl (h.journal_part.prefixes id (Mut v) sits) (journal_legal told id v m s h sits) (h.journal_part.own id v sits),
+        record {
+          learns = learns looked_last me v found m.journal w is refl (h.journal_part.prefixes id (Mut v) sits) (journal_legal told id v m s h sits) (h.journal_part.own id v sits);
+          whole = ap high_half (found_is told id v m s.words s.views h sits word ClockWord is_word tt) ∙ h.journal_part.tickets;
+        },
       )
 
   -- a lane word is 0, or the number of an active check

@@ -7,7 +7,7 @@ use native.Mathlib.Decide.{ℕ_discrete}
 use mathlib.Core.Option.{some}
 use Rattle.atomic_table.specs.Table.{State, keeps, Allows}
 use Rattle.st_layout.specs.declared.limits.TheConstants.{MOST_FIELDS}
-use Rattle.st_layout.specs.Names.{WordName, ClockWord, AvailableWord, LaneWord, ClassWord, HeaderWord, ForwardWord, FieldWord, CopyWord, FreeWord}
+use Rattle.st_layout.specs.Names.{WordName, ClockWord, AvailableWord, LaneWord, ClassWord, HeaderWord, ForwardWord, FieldWord, CopyWord, FreeWord, RowWord}
 use Rattle.st_layout.specs.Names.{HasWord, cells_of}
 use Rattle.st_layout.specs.Layout.{word_of}
 use Rattle.st_layout.specs.Packed.{packed, high_half, low_half}
@@ -97,10 +97,12 @@ module _ (told : Told) (slots id : ℕ) (me : Seated) (v : MutView) (is : me.0 �
   -- a store of such a word leaves what anyone keeps
   lone_quiet : (inside : v.gate.phase ≡ Inside) (name : WordName) (value : ℕ) → IsLoneWord name → (clock : written name value m.board ClockWord ≡ m.board ClockWord)
       → ((o l : ℕ) → high_half (m.board (ForwardWord o l)) ≡ m.board (LaneWord l) → written name value m.board (ForwardWord o l) ≡ m.board (ForwardWord o l))
+      → ((check k : ℕ) → written name value m.board (RowWord check k) ≡ m.board (RowWord check k))
       → StaysOnBoard (at v.gate.number v.gate.phase m.phase) m.board (written name value m.board)
-  lone_quiet inside name value lone clock forwarded = record {
+  lone_quiet inside name value lone clock forwarded rows = record {
     clock = clock;
     forwarded = forwarded;
+    rows = rows;
     board = λ other keeps'. written_else Inside name other value m.board (lone Inside not_alone) keeps' (same_name other name) refl;
     loaded = λ j other keeps'. written_else (phases' told slots id me v is s m h sits j) name other value m.board
         (lone (phases' told slots id me v is s m h sits j) (none_alone inside j)) keeps' (same_name other name) refl;
@@ -183,7 +185,7 @@ module _ (told : Told) (slots id : ℕ) (me : Seated) (v : MutView) (is : me.0 �
       let mine = h.copy_part.indexes hand.object y free.index (flies_is awaits.has) free.drawn in
       holder_keeps told slots id me v is s m h sits (copy_stored v) (stays_of v (copy_stored v) refl refl refl refl refl) refl refl refl (Some (record hand { flight = Some z }))
       (ap with_built awaits.has.held ∙ ap (λ x. Some (record hand { flight = one_built x })) awaits.has.flies)
-      (written (CopyWord c y.built) value m.board) (lone_quiet (inside awaits.has) (CopyWord c y.built) value (copies_are_lone c y.built) refl (λ o l epoch. refl)) (λ j. refl) refl (at hand.object (suc n) m.holder)
+      (written (CopyWord c y.built) value m.board) (lone_quiet (inside awaits.has) (CopyWord c y.built) value (copies_are_lone c y.built) refl (λ o l epoch. refl) (λ check k. refl)) (λ j. refl) refl (at hand.object (suc n) m.holder)
       (objects_with awaits.has z refl refl refl)
       (subst (λ (x : ℕ → Option Flight). VersionsAt told m x (written (CopyWord c y.built) value m.board)) (λ i o. sym (flights_now awaits.has z o) i) (
         lanes_built told.terms.sizes w (λ l. m.board (LaneWord l)) (m.board AvailableWord) flights (λ o f. m.board (FieldWord o f)) (λ o l. m.board (ForwardWord o l))
@@ -221,7 +223,7 @@ module _ (told : Told) (slots id : ℕ) (me : Seated) (v : MutView) (is : me.0 �
       holder_keeps told slots id me v is s m h sits (forwarded lane v) (stays_of v (forwarded lane v) refl refl refl refl refl) refl refl refl (Some (record hand { flight = Some z }))
       (ap (with_forward lane) awaits.has.held ∙ ap (λ x. Some (record hand { flight = owed_less lane x })) awaits.has.flies)
       (written (ForwardWord hand.object lane) (packed (m.board (LaneWord lane)) low) m.board)
-      (lone_quiet (inside awaits.has) (ForwardWord hand.object lane) (packed (m.board (LaneWord lane)) low) (forwards_are_lone hand.object lane) refl (still_told awaits.has lane awaits.awaits (packed (m.board (LaneWord lane)) low))) (λ j. refl) refl (at hand.object (suc n) m.holder)
+      (lone_quiet (inside awaits.has) (ForwardWord hand.object lane) (packed (m.board (LaneWord lane)) low) (forwards_are_lone hand.object lane) refl (still_told awaits.has lane awaits.awaits (packed (m.board (LaneWord lane)) low)) (λ check k. refl)) (λ j. refl) refl (at hand.object (suc n) m.holder)
       (objects_forwarded told.terms.sizes w (phases' told slots id me v is s m h sits) (at n (Some (record hand { flight = Some z })) m.grip) (at hand.object (suc n) m.holder)
       (λ o. m.board (HeaderWord o)) (λ o. m.board (ClassWord o)) (λ o f. m.board (FieldWord o f)) (λ o l. m.board (ForwardWord o l))
       (at_field hand.object lane (packed (m.board (LaneWord lane)) low) (λ o l. m.board (ForwardWord o l)))

@@ -8,7 +8,7 @@ use mathlib.Core.List.{IsPrefix}
 use mathlib.Core.Option.{some}
 use native.Mathlib.Decide.{ℕ_discrete}
 use Rattle.atomic_table.specs.Table.{keeps, Allows}
-use Rattle.st_layout.specs.Names.{ClosingWord, ClockWord, EpochWord, AvailableWord, FlagWord, LaneWord, ClassWord, HeaderWord, ForwardWord, FieldWord}
+use Rattle.st_layout.specs.Names.{ClosingWord, ClockWord, EpochWord, AvailableWord, FlagWord, LaneWord, ClassWord, HeaderWord, ForwardWord, FieldWord, RowWord}
 use Rattle.st_layout.specs.Layout.{word_of}
 use Rattle.st_layout.specs.Packed.{packed, high_half, low_half}
 use Rattle.st_events.specs.declared.events.Event.{Event}
@@ -41,6 +41,7 @@ use Rattle.st_rule.specs.Views.{seen_by, is_closer}
 use Rattle.st_rule.proofs.DrawEvents.{suits_own, suits_other}
 use Rattle.st_rule.proofs.DrawLegal.{legal_next, objects_next, epoch_same, active_same, launched_same, mutator}
 use Rattle.st_rule.proofs.ReadLemmas.{lanes_stay, reading_on}
+use Rattle.st_rule.proofs.RowLemmas.{rows_drawn, rows_stay}
 use Rattle.st_rule.specs.Reading.{IsReading}
 use Rattle.st_rule.proofs.EntryLemmas.{entry, own_more, own_other, charge_more, below_more}
 use Rattle.st_rule.proofs.GateSteps.{learns, found_is, store_fits, journal_legal}
@@ -337,6 +338,7 @@ module _ (told : Told) (id : ℕ) (v : MutView) (m : Moment) (words : List ℕ) 
           (active_same v may.hand told.terms.shape told.terms.sizes before event may.suits) (launched_same v may.hand told.terms.shape told.terms.sizes before event may.suits)
           (λ l. refl) (λ o l epoch. refl) (h.read_part.reads j u there));
     });
+    row_part = rows_drawn m.journal event (λ check k. board' (RowWord check k)) (rows_stay m.journal m.board board' (λ check k. refl) h.row_part);
     hand_part = hands_after;
     seating = seating_next;
   }

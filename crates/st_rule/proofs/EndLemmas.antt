@@ -9,9 +9,10 @@ use mathlib.Core.Option.{some, some-injective, some-ne-none}
 use lib.ListN.{get_elem?}
 use Rattle.atomic_table.specs.Table.{State, Final, Seen}
 use Rattle.st_layout.specs.Layout.{word_of}
-use Rattle.st_layout.specs.Names.{ClockWord, AvailableWord}
+use Rattle.st_layout.specs.Names.{ClockWord, AvailableWord, RowWord, HasWord}
 use Rattle.st_layout.specs.Packed.{high_half, low_half}
 use Rattle.st_events.specs.History.{epoch_of}
+use Rattle.st_events.specs.Legal.{IsLegal}
 use Rattle.st_events.specs.World.{is_among}
 use Rattle.st_rule.specs.declared.views.JoinedView.{JoinedView}
 use Rattle.st_rule.specs.declared.views.MutView.{MutView}
@@ -22,8 +23,18 @@ use Rattle.st_rule.specs.Ends.{IsHistoryOf, HasLogs}
 use Rattle.st_rule.specs.Entries.{own_entries}
 use Rattle.st_rule.specs.Parts.{Sits}
 use Rattle.st_rule.specs.Rule.{Told, Moment, HoldsAt, IsSoundTable}
-use Rattle.st_rule.specs.Seats.{HasJoinedAll}
+use Rattle.st_rule.specs.Rows.{IsUnretired, rows_told, row_word}
+use Rattle.st_rule.specs.Seats.{HasJoinedAll, HasSeenAll}
+use Rattle.st_rule.specs.SeatValue.{SeatValue}
+use Rattle.st_rule.proofs.PrefixLemmas.{prefix_whole}
+use Rattle.st_rule.proofs.RowLemmas.{row_is, none_retired}
 use Rattle.st_rule.proofs.ViewLemmas.{sits_once, mut_is, gone_is_no_mutator}
+
+-- where a seat has seen as many events as the clock counts, it has seen the whole journal
+pub sees_all : (told : Told) (seat : SeatValue) (clock : ℕ) → high_half clock ≡ length seat.view.journal.seen → HasSeenAll told seat clock
+sees_all told seat clock counts m words views h sits is_clock =
+    let same : length m.journal ≡ length seat.view.journal.seen = sym h.journal_part.tickets ∙ ap high_half is_clock ∙ counts in
+    sym (prefix_whole seat.view.journal.seen m.journal (h.journal_part.prefixes seat.id (Mut seat.view) sits) (omega (arith, same)))
 
 first_or_rest : (a b : Bool) → (a || b) ≡ true → (a ≡ true) ⊎ (b ≡ true)
 first_or_rest true b e = inl refl
@@ -82,6 +93,14 @@ module _ (told : Told) (id : ℕ) (v : MutView) (m : Moment) (words : List ℕ) 
       let u = h.board_part.unlaunched (ap (epoch_of told.terms.shape told.terms.sizes) saw_all ∙ none) in
       (h.displayed.says AvailableWord tt ∙ u.0, ap low_half (h.displayed.says ClockWord tt) ∙ u.1)
 
+  -- the row of a check that was not retired is all 0
+  pub rows_unwritten :
+      (check k : ℕ) → HasWord (plan_of told.terms.sizes) (RowWord check k) → IsUnretired v.journal.seen check
+      → row_word (rows_told (plan_of told.terms.sizes) words) check k ≡ 0
+  rows_unwritten check k has none =
+      row_is (plan_of told.terms.sizes) words check k
+      ∙ h.displayed.says (RowWord check k) has ∙ h.row_part.unwritten check k (subst (λ es. IsUnretired es check) (sym saw_all) none)
+
 get_there : (l : List ℕ) (i a : ℕ) → get_elem? l i ≡ some a → get_or l i 0 ≡ a
 get_there [] i a e = absurd (some-ne-none a (sym e))
 get_there (x ∷ xs) zero a e = some-injective x a e
@@ -122,3 +141,17 @@ module _ (told : Told) (id : ℕ) (v : MutView) (is_main : v.gate.number ≡ tol
         sym (word_is place word found) ∙ ap (λ i. get_or s.words i 0) is_place ∙ free.0,
         ap low_half (sym (word_is clock_place clock found_clock) ∙ ap (λ i. get_or s.words i 0) is_clock_place) ∙ free.1,
       )
+
+  pub final_rows :
+      (check k : ℕ) → HasWord (plan_of told.terms.sizes) (RowWord check k) → IsUnretired v.journal.seen check
+      → row_word (rows_told (plan_of told.terms.sizes) words) check k ≡ 0
+  final_rows check k has none =
+      ap (λ ws. row_word (rows_told (plan_of told.terms.sizes) ws) check k) (sym final.2) ∙ rows_unwritten told id v m s.words s.views h final.1.1 is_main all_joined check k has none
+
+  pub final_no_rows :
+      epoch_of told.terms.shape told.terms.sizes v.journal.seen ≡ 0
+      → (check k : ℕ) → HasWord (plan_of told.terms.sizes) (RowWord check k)
+      → row_word (rows_told (plan_of told.terms.sizes) words) check k ≡ 0
+  final_no_rows none check k has =
+      final_rows check k has (none_retired told.terms.shape told.terms.sizes h.shape_limits v.journal.seen
+      (subst (IsLegal told.terms.shape told.terms.sizes) (saw_all told id v m s.words s.views h final.1.1 is_main all_joined) h.journal_part.legal) none check)

@@ -191,6 +191,7 @@ module _ (told : Told) (id : ℕ) (v : MutView) (other : ℕ) (u : MutView) (m :
           (λ old. lanes_stay views id b (λ j u. IsReading told.terms (world_of told.terms m) (λ l. m.board (LaneWord l)) (λ o l. m.board (ForwardWord o l)) u) h.read_part.reads j x old.1)
           (at_set (set views id (Mut b)) other j Gone (Lane x) there);
     };
+    row_part = h.row_part;
     hand_part = hands_joined;
     seating = seating_joined;
   }

@@ -124,6 +124,7 @@ module _ (told : Told) (id : ℕ) (u : LaneView) (m : Moment) (s : State Unit Vi
             (λ y e. subst (IsReading told.terms w (λ l. m.board (LaneWord l)) (λ o l. m.board (ForwardWord o l))) (lane_is x y e) reads)
             (λ j z other there y e. h.read_part.reads j y (subst (Sits s.views j) e there)) j (Lane y) there y refl;
       };
+      row_part = h.row_part;
       hand_part = record {
         joined = muts_stay s.views id x (λ j v. All (IsJoined m.seat m.split m.journal views' v.journal.seen) v.hands.joined)
             (λ j v there. joined_still m.seat m.split m.journal s.views views' v.journal.seen v.journal.seen v.hands.joined (prefix_self v.journal.seen) still_gone'

@@ -6,6 +6,7 @@ pub mod ViewLemmas
 pub mod ObjectLemmas
 pub mod HoldLemmas
 pub mod ReadLemmas
+pub mod RowLemmas
 pub mod TurnLemmas
 pub mod LoadedLemmas
 pub mod GateLemmas

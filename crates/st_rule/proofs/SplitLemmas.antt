@@ -204,6 +204,7 @@ module _ (told : Told) (id : ℕ) (v : MutView) (m : Moment) (words : List ℕ) 
           (λ new. absurd (mut_is_no_lane r u new.1))
           (at_end (set views id (Mut l)) (Mut r) (Lane u) j there);
     };
+    row_part = h.row_part;
     hand_part = hands_split;
     seating = seating_split;
   }

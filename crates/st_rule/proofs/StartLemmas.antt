@@ -141,6 +141,7 @@ module _ (told : Told) (fits : AreWithinLimits told.terms.sizes) (shape_fits : I
         reads = λ id u there. only_one (λ id x. x ≡ Lane u → IsReading told.terms (first_world told.terms.shape) (λ l. 0) (λ o l. 0) u) (Mut v)
             (λ e. absurd (mut_is_no_lane v u e)) id (Lane u) there refl;
       };
+      row_part = record { unwritten = λ check k none. refl };
       copy_part = record {
         some_left = λ few. omega arith;
         none_left = λ none. let c : told.terms.sizes.copies ≤ 0 = none in omega (arith, c);

@@ -7,6 +7,7 @@ use mathlib.Core.Logic.{◌↔◌, dite}
 use native.Mathlib.Decide.{ℕ_discrete}
 use mathlib.Core.List.{IsPrefix}
 use Rattle.st_layout.specs.Names.{WordName, ClosingWord, ClockWord, EpochWord, AvailableWord, FlagWord, LaneWord, ClassWord, HeaderWord, ForwardWord, FieldWord}
+use Rattle.st_layout.specs.Names.{RowWord}
 use Rattle.st_events.specs.declared.limits.Sizes.{Sizes}
 use Rattle.st_events.specs.declared.events.Event.{Event}
 use Rattle.st_events.specs.World.{at, is_among}
@@ -29,6 +30,7 @@ use Rattle.st_rule.specs.Views.{seen_by, flag_of, is_closer}
 use Rattle.st_rule.proofs.ViewLemmas.{set_there, sits_once, mut_is, gone_is_no_mutator, all_set, all_mut_set, at_here, at_else}
 use Rattle.st_rule.proofs.PrefixLemmas.{prefix_self, prefix_trans}
 use Rattle.st_rule.proofs.ReadLemmas.{lanes_stay, reading_on}
+use Rattle.st_rule.proofs.RowLemmas.{rows_stay}
 use Rattle.st_rule.specs.Reading.{IsReading}
 use Rattle.atomic_table.proofs.Lists.{set_else}
 
@@ -69,6 +71,8 @@ pub record StaysOnBoard (phase : ℕ → Phase) (before after : Board) : Type 0 
   pub loaded : (n : ℕ) (name : WordName) → stays_loaded (phase n) name ≡ true → after name ≡ before name
   -- and a forwarding word of its lane's check is not written
   pub forwarded : (o l : ℕ) → high_half (before (ForwardWord o l)) ≡ before (LaneWord l) → after (ForwardWord o l) ≡ before (ForwardWord o l)
+  -- nor a check row
+  pub rows : (check k : ℕ) → after (RowWord check k) ≡ before (RowWord check k)
 
 -- where no phase could keep a word that was changed, every number's loaded words stand, whatever its phase is
 pub leaves_board : {phase : ℕ → Phase} {before after : Board} → LeavesBoard before after → StaysOnBoard phase before after
@@ -77,6 +81,7 @@ leaves_board leaves = record {
   board = λ name keeps. leaves Inside name keeps;
   loaded = λ n name keeps. leaves _ name keeps;
   forwarded = λ o l epoch. leaves Alone (ForwardWord o l) refl;
+  rows = λ check k. leaves Alone (RowWord check k) refl;
 }
 
 -- the parts on old versions, for what is in flight at each object and these words
@@ -300,6 +305,7 @@ module _ (told : Told) (m : Moment) (words : List ℕ) (views : List View) (h : 
               (λ j u there. reading_on told.terms (world_of told.terms m) (world_of told.terms m) (λ l. m.board (LaneWord l)) (λ l. board' (LaneWord l))
               (λ o l. m.board (ForwardWord o l)) (λ o l. board' (ForwardWord o l)) u refl refl (λ l. quiet.board (LaneWord l) refl) quiet.forwarded (h.read_part.reads j u there));
         };
+        row_part = rows_stay m.journal m.board board' quiet.rows h.row_part;
         hand_part = hands_after;
         seating = seating_after;
       }

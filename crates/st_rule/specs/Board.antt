@@ -54,7 +54,7 @@ first_board plan AvailableWord = plan.copies
 first_board plan (FreeWord index) = index
 first_board plan name = 0
 
--- the words of which a seat in this phase may keep what it has loaded: only a closer changes the board, and only who is inside or alone the rest
+-- the words of which a seat in this phase may keep what it has loaded: only a closer changes the board and the check rows, and only who is inside or alone the rest
 abbrev pub stays_loaded : Phase → WordName → Bool
 stays_loaded Inside EpochWord = true
 stays_loaded Inside AvailableWord = true
@@ -67,4 +67,5 @@ stays_loaded Alone (FreeWord index) = true
 stays_loaded Alone ClockWord = true
 stays_loaded Alone (CopyWord copy index) = true
 stays_loaded Alone (ForwardWord object lane) = true
+stays_loaded Alone (RowWord check index) = true
 stays_loaded phase name = false

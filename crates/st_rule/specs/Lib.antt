@@ -8,6 +8,7 @@ pub mod Turns
 pub mod Draws
 pub mod Parts
 pub mod Reading
+pub mod Rows
 pub mod Rule
 pub mod Ends
 pub mod Keys

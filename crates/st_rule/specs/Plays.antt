@@ -15,7 +15,7 @@ use Rattle.st_rule.specs.Draws.{drew, IsNextOf}
 use Rattle.st_rule.specs.Entries.{own_entries}
 use Rattle.st_rule.specs.Board.{plan_of}
 use Rattle.st_rule.specs.declared.views.Held.{Held}
-use Rattle.st_rule.specs.Turns.{locked, board_loaded, field_found, forwarded, object_of_header, field_of_word, lane_of_word}
+use Rattle.st_rule.specs.Turns.{looked_last, locked, board_loaded, field_found, forwarded, object_of_header, field_of_word, lane_of_word}
 
 -- a seat and its view; no seat of this table holds a slot
 abbrev pub Seated : Type 0
@@ -35,6 +35,11 @@ pub record Learns (change : ℕ → List Event → MutView → MutView) (before 
   pub legal : (v : MutView) → before.0 ≡ Mut v → IsLegal v.terms.shape v.terms.sizes seen
   pub own : (v : MutView) → before.0 ≡ Mut v → own_entries v.gate.number 0 seen ≡ v.journal.entries
   pub slots : after.1 ≡ before.1
+
+-- last look: the seat has then seen as many events as the clock counts tickets, which are all events of the journal
+pub record LooksLast (before : Seated) (word : ℕ) (after : Seated) : Type 0 where
+  pub learns : Learns looked_last before word after
+  pub whole : high_half word ≡ length learns.seen
 
 -- what a word of the board is at most: each is a half of a word, and the free list names copies
 pub record IsBoardWord (sizes : Sizes) (place word : ℕ) : Type 0 where

@@ -2,7 +2,7 @@
 use Rattle.std.specs.Prelude.{ℕ, List, [], Option, None}
 use Rattle.atomic_table.specs.Table.{State}
 use Rattle.st_layout.specs.Names.{ClosingWord, ClockWord, EpochWord, AvailableWord, FlagWord, LaneWord, ClassWord, HeaderWord, ForwardWord, FieldWord}
-use Rattle.st_layout.specs.Names.{CopyWord, FreeWord}
+use Rattle.st_layout.specs.Names.{CopyWord, FreeWord, RowWord}
 use Rattle.st_layout.specs.Packed.{low_half}
 use Rattle.st_events.specs.declared.events.Event.{Event}
 use Rattle.st_events.specs.declared.verdicts.Verdict.{Verdict}
@@ -18,6 +18,7 @@ use Rattle.st_rule.specs.declared.views.View.{View}
 use Rattle.st_rule.specs.Board.{Board, Displays, plan_of}
 use Rattle.st_rule.specs.Holding.{holding, flight_of}
 use Rattle.st_rule.specs.Reading.{ReadPart}
+use Rattle.st_rule.specs.Rows.{RowPart}
 use Rattle.st_rule.specs.Versions.{LanePart, CopyPart}
 use Rattle.st_rule.specs.declared.views.Flight.{Flight}
 use Rattle.st_events.specs.declared.limits.Sizes.{Sizes}
@@ -87,6 +88,7 @@ pub record HoldsAt (told : Told) (m : Moment) (words : List ℕ) (views : List V
   pub lane_part : LanesAt told.terms.sizes (world_of told.terms m) m.board (flights_of m.grip m.holder)
   pub copy_part : CopiesAt told.terms.sizes (world_of told.terms m) m.board m.since (flights_of m.grip m.holder)
   pub read_part : ReadsAt told.terms (world_of told.terms m) m.board views
+  pub row_part : RowPart m.journal (λ check k. m.board (RowWord check k))
   pub hand_part : HandPart m.seat m.split m.journal views
   pub seating : Seating told.terms m.phase m.grip m.seat m.split views
 

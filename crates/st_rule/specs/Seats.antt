@@ -1,5 +1,6 @@
 -- What contracts see of a table and its seats.
 use Rattle.std.specs.Prelude.{◌≡◌, ℕ, ◌<◌, true, List, map, None}
+use Rattle.st_layout.specs.Names.{ClockWord}
 use Rattle.atomic_table.specs.Seated.{TableId}
 use Rattle.st_events.specs.declared.events.Event.{Event}
 use Rattle.st_events.specs.declared.limits.Sizes.{Sizes}
@@ -9,8 +10,11 @@ use Rattle.st_events.specs.World.{is_among}
 use Rattle.st_rule.specs.declared.tables.Shared.{Shared}
 use Rattle.st_rule.specs.declared.views.Terms.{Terms}
 use Rattle.st_rule.specs.declared.views.MutView.{MutView}
+use Rattle.st_rule.specs.declared.views.View.{View}
+use Rattle.st_rule.specs.declared.views.View.TheVariants.{Mut}
 use Rattle.st_rule.specs.Keys.{terms_by, told_by}
-use Rattle.st_rule.specs.Rule.{Told}
+use Rattle.st_rule.specs.Parts.{Sits}
+use Rattle.st_rule.specs.Rule.{Told, Moment, HoldsAt}
 use Rattle.st_rule.specs.SeatValue.{SeatValue, IsFairView}
 
 -- which table it is
@@ -62,3 +66,12 @@ HasJoinedAll v = (n : ℕ) → n < v.gate.split → is_among (map (λ j. j.numbe
 -- what the table was told, by what its judge means
 abbrev pub told_of : {J : Type 0} → (J → ShapeLists) → (J → Sizes → List Event → ℕ → Verdict → Type 0) → Shared J → Told
 told_of meant right shared = told_by meant right shared.table.shared.key
+
+-- at each moment at which the rule holds, the seat has this view and the clock has this word, the seat has seen the whole journal
+abbrev pub HasSeenAll : Told → SeatValue → (clock : ℕ) → Type 0
+HasSeenAll told seat clock =
+    (m : Moment) (words : List ℕ) (views : List View)
+    → HoldsAt told m words views
+    → Sits views seat.id (Mut seat.view)
+    → m.board ClockWord ≡ clock
+    → m.journal ≡ seat.view.journal.seen

@@ -1,7 +1,9 @@
 //! The end of a table.
 ghost use Rattle.std.specs.Prelude.{◌≡◌, length};
 ghost use Rattle.st_rule.specs.declared.views.Phase.TheVariants.{Outside};
-ghost use Rattle.st_rule.specs.Ends.{IsHistoryOf, HasLogs, HasAllFree};
+ghost use Rattle.std.specs.Slots.{slots_items};
+ghost use Rattle.st_rule.specs.Ends.{IsHistoryOf, HasLogs, HasAllFree, HasUnwrittenRows, HasNoRows};
+ghost use Rattle.st_rule.specs.Rows.{rows_told};
 ghost use Rattle.st_rule.specs.Views.{mutator_of};
 ghost use Rattle.st_rule.specs.Seats.{IsSeatOf, IsMain, HasJoinedAll, terms_of, told_of};
 
@@ -10,28 +12,34 @@ use crate::tables::Shared;
 use crate::views::View;
 use atomic_table::Seat;
 use st_events::Judge;
-use st_layout::{hi, lo};
+use st_layout::{Plan, hi, lo};
+use std::alloc::Global;
 use std::marker::Model;
 use std::snapshot::Snapshot;
 
-/// What is left of a table. Only `close` makes one. Contracts see it as the journal of the table at its close, its history, and the
-/// number of its free copies.
+/// What is left of a table. Only `close` makes one. Contracts see it as the journal of the table at its close, its history, its check
+/// rows and the number of its free copies.
 #[derive(Drop)]
 pub struct Closed {
     free: u32,
     events: u32,
     /// The main thread's seat, of which only proofs keep a picture: it has seen the history.
     main: Snapshot<Seat<(), View>>,
+    plan: Plan,
+    /// The words, of which only proofs keep a picture: no call tells a row yet.
+    words: Snapshot<atomic_table::Closed<(), Global>>,
 }
 
 impl Model for Closed {
     ghost use Rattle.std.specs.Prelude.{◌≡◌, length};
+    ghost use Rattle.std.specs.Slots.{slots_items};
     ghost use Rattle.st_rule.specs.Ends.{ClosedValue};
+    ghost use Rattle.st_rule.specs.Rows.{rows_told};
     ghost use Rattle.st_rule.specs.Views.{mutator_of};
 
     ghost Value = { ClosedValue };
 
-    ghost view = { λ c. record { history = (mutator_of c.main.value.me.0).journal.seen; free = c.free } };
+    ghost view = { λ c. record { history = (mutator_of c.main.value.me.0).journal.seen; rows = rows_told c.plan (slots_items c.words.value.words); free = c.free } };
 
     ghost invariant = { λ c. c.events ≡ length (mutator_of c.main.value.me.0).journal.seen };
 }
@@ -52,12 +60,25 @@ impl Closed {
     }
 
     /// A table that was closed.
-    fn of(free: u32, events: u32, main: Snapshot<Seat<(), View>>) -> Closed
+    fn of(
+        free: u32,
+        events: u32,
+        main: Snapshot<Seat<(), View>>,
+        plan: Plan,
+        words: Snapshot<atomic_table::Closed<(), Global>>,
+    ) -> Closed
         requires { events ≡ length (mutator_of main.value.me.0).journal.seen }
         ensures history { result.history ≡ (mutator_of main.value.me.0).journal.seen }
+        ensures rows { result.rows ≡ rows_told plan (slots_items words.value.words) }
         ensures free { result.free ≡ free }
     {
-        Closed { free, events, main }
+        Closed {
+            free,
+            events,
+            main,
+            plan,
+            words,
+        }
     }
 }
 
@@ -71,6 +92,8 @@ impl<J: Judge> Shared<J> {
         ensures seen { result.history ≡ main.view.journal.seen }
         ensures history { IsHistoryOf (told_of J.meant J.right self) result.history }
         ensures logs { HasLogs result.history main.view.hands.joined }
+        ensures rows { HasUnwrittenRows (terms_of J.meant self) result }
+        ensures unlaunched { HasNoRows (terms_of J.meant self) result }
         ensures free { HasAllFree (terms_of J.meant self) result }
     {
         let Shared { table, plan, .. } = self;
@@ -79,9 +102,10 @@ impl<J: Judge> Shared<J> {
         let closed = table.close_with(seat);
         let clock = closed.word(plan.clock_word() as usize);
         let available = closed.word(plan.available_word() as usize);
+        let words = Snapshot::of(&closed);
         closed.free();
         let free = free_copies(available, lo(clock), plan.copies);
-        Closed::of(free, hi(clock) as u32, picture)
+        Closed::of(free, hi(clock) as u32, picture, plan, words)
     }
 }
 

@@ -9,9 +9,9 @@
 //!   holds the object. The header gets the epoch as its stamp last, which is the epoch of the draw: no check is launched while a seat is inside.
 //! - The next object of a mutator's region is held by nobody else, and its header is 0. So its lock is never refused.
 //! - The board's words stay as they are while some seat is inside, since only who is alone writes them.
-ghost use Rattle.std.specs.Prelude.{◌≡◌, ◌+◌, ◌<◌, Some};
+ghost use Rattle.std.specs.Prelude.{◌≡◌, ◌+◌, ◌<◌, [], ◌∷◌, ◌++◌, length, Some, vec_len, vec_capacity};
 ghost use Rattle.st_layout.specs.declared.limits.TheConstants.{MOST_FIELDS};
-ghost use Rattle.st_layout.specs.Packed.{packed};
+ghost use Rattle.st_layout.specs.Packed.{packed, high_half};
 ghost use Rattle.st_events.specs.declared.events.Event.{Event};
 ghost use Rattle.st_rule.specs.declared.views.Phase.TheVariants.{Inside};
 ghost use Rattle.st_rule.specs.Draws.{MayLock, MayUnlock, HasInHand, AwaitsField, AwaitsClass, MayDraw, MayLoadBoard};
@@ -35,6 +35,7 @@ impl<J: Judge> Shared<J> {
         ensures fair { IsFair seat.new }
         ensures view { FindsAndLearns looked_last seat.old.view seat.new.view }
         ensures found { seat.new.view.tally.found ≡ Some result }
+        ensures counts { high_half result ≡ length seat.new.view.journal.seen }
     {
         let word = self.clock_place();
         self.table.shared.load::<LastLook>(&mut seat.seat, word)
@@ -159,14 +160,20 @@ impl<J: Judge> Shared<J> {
             .table
             .shared
             .fetch_add::<Draw<D>>(&mut seat.seat, word, added);
-        seat.entries.push_reserved(Entry {
-            ticket: hi(found) as u32,
-            event,
-        });
+        keep_entry(&mut seat.entries, hi(found) as u32, event);
         seat.spare -= 1;
         seat.room -= objects_made(&event);
         found
     }
+}
+
+/// Writes an event with its ticket at the end of a seat's list.
+fn keep_entry(entries: &mut Vec<Entry>, ticket: u32, event: Event)
+    requires room { vec_len entries.old < vec_capacity entries.old }
+    ensures items { entries.new.items ≡ entries.old.items ++ record { ticket = ticket; event = event } ∷ [] }
+    ensures capacity { vec_capacity entries.new ≡ vec_capacity entries.old }
+{
+    entries.push_reserved(Entry { ticket, event });
 }
 
 /// How many objects an event makes.

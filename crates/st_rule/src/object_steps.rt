@@ -2,13 +2,13 @@
 //! is by the word that it found. Why each keeps the rule is told at the head of `object_accesses.rt`.
 //!
 //! A heap call takes them in this order: lock, board loads, field loads, draw, field store or class store, unlock.
-ghost use Rattle.std.specs.Prelude.{◌≡◌, ◌≢◌, ◌<◌, Some, MatchResult};
+ghost use Rattle.std.specs.Prelude.{◌≡◌, ◌≢◌, ◌<◌, length, Some, MatchResult};
 ghost use Rattle.st_layout.specs.declared.limits.TheConstants.{MOST_FIELDS};
 ghost use Rattle.st_layout.specs.Packed.{packed, high_half, low_half};
 ghost use Rattle.st_rule.specs.declared.views.Phase.TheVariants.{Inside, Outside};
 ghost use Rattle.st_rule.specs.Draws.{MayLock, MayUnlock, HasInHand, AwaitsField, AwaitsClass, MayDraw, MayLoadBoard};
 ghost use Rattle.st_rule.specs.Plays.{Finds, FindsAndLearns, FindsBoard, FindsLock, FindsAndDraws};
-ghost use Rattle.st_rule.specs.Seats.{IsSeatOf, IsSameSeat, IsFair, HoldsNothing};
+ghost use Rattle.st_rule.specs.Seats.{IsSeatOf, IsSameSeat, IsFair, HoldsNothing, HasSeenAll, told_of};
 ghost use Rattle.st_rule.specs.Turns.{looked_last, unlocked, field_found, word_written};
 
 use crate::seats::MutSeat;
@@ -18,7 +18,7 @@ use st_layout::{hi, lo, pack};
 use std::marker::Brand;
 
 impl<J: Judge> Shared<J> {
-    /// Last look: a load of the clock. The seat has then seen the whole journal of this moment.
+    /// Last look: a load of the clock. The seat has then seen the whole journal of this moment: as many events as the clock counts.
     pub fn last_look(&self, seat: &mut MutSeat<J>) -> u64
         requires table { IsSeatOf J.meant self.now seat.old }
         requires phase { seat.old.view.gate.phase ≡ Outside }
@@ -26,6 +26,8 @@ impl<J: Judge> Shared<J> {
         ensures fair { IsFair seat.new }
         ensures view { FindsAndLearns looked_last seat.old.view seat.new.view }
         ensures found { seat.new.view.tally.found ≡ Some result }
+        ensures counts { high_half result ≡ length seat.new.view.journal.seen }
+        ensures whole { HasSeenAll (told_of J.meant J.right self.now) seat.new result }
     {
         self.load_clock(seat)
     }

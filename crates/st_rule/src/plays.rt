@@ -4,9 +4,9 @@ ghost use Rattle.st_events.specs.declared.events.Event.{Event};
 ghost use Rattle.st_events.specs.declared.events.Event.TheVariants.{Retire};
 ghost use Rattle.st_layout.specs.Packed.{high_half};
 ghost use Rattle.st_rule.specs.LaneSeats.{ReadsField, ReadsForward, ReadsCopy};
-ghost use Rattle.st_rule.specs.Plays.{Becomes, Learns, LoadsBoard, LocksWhere, FindsField, StoresForward, Draws};
+ghost use Rattle.st_rule.specs.Plays.{Becomes, Learns, LooksLast, LoadsBoard, LocksWhere, FindsField, StoresForward, Draws};
 ghost use Rattle.st_rule.specs.Turns.{flagged_in, looked, flagged_out, took_gate, saw, gave_gate, number_of_flag};
-ghost use Rattle.st_rule.specs.Turns.{looked_last, unlocked, word_written, copy_stored};
+ghost use Rattle.st_rule.specs.Turns.{unlocked, word_written, copy_stored};
 
 use crate::views::View;
 use atomic_table::Play;
@@ -58,7 +58,7 @@ impl Play<(), View> for GiveGate {
 pub struct LastLook;
 
 impl Play<(), View> for LastLook {
-    ghost then = { λ step before word after. Learns looked_last before word after };
+    ghost then = { λ step before word after. LooksLast before word after };
 }
 
 /// Board load. Which word it is, its number tells.

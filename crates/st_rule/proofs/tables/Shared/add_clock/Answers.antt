@@ -33,9 +33,9 @@ invariant_of-seat g c =
     let keeps = drawn_kept c.seat.invariant c.args.event c.args.copy
     (subst (λ (x : MutView). MayDraw x c.args.event c.args.copy) (sym (ap (λ s. s.view) c.seat.view_is)) c.requires.event) c.fetch_add-found.result
     (subst (λ (e : Event). Draws e c.seat.inside.seat.me c.fetch_add-found.result c.fetch_add-found.new.seat.me) c.requires.picked c.fetch_add-found.ensures.2)
-    c.push_reserved.new.self.items (c.push_reserved.ensures.items ∙ ap (λ t. c.seat.inside.entries.items ++ record { ticket = t; event = c.args.event } ∷ []) c.hi.ensures.half) in
-    subst (λ (x : ℕ × ℕ). KeepsSeat c.fetch_add-found.new.seat.me c.seat.inside.number (c.seat.inside.spare - 1) (c.seat.inside.room - x.0) c.push_reserved.new.self.items x.1)
-    (λ i. (sym c.objects_made.ensures i, sym c.push_reserved.ensures.capacity i)) keeps
+    c.keep_entry.new.entries.items (c.keep_entry.ensures.items ∙ ap (λ t. c.seat.inside.entries.items ++ record { ticket = t; event = c.args.event } ∷ []) c.hi.ensures.half) in
+    subst (λ (x : ℕ × ℕ). KeepsSeat c.fetch_add-found.new.seat.me c.seat.inside.number (c.seat.inside.spare - 1) (c.seat.inside.room - x.0) c.keep_entry.new.entries.items x.1)
+    (λ i. (sym c.objects_made.ensures i, sym c.keep_entry.ensures.capacity i)) keeps
 
 pub returns-clause-fair : goal.returns-clause-fair
 returns-clause-fair g c = (invariant_of-seat g c).fair

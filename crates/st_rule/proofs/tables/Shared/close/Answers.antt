@@ -6,11 +6,12 @@ use Rattle.st_events.specs.History.{epoch_of}
 use Rattle.st_rule.specs.declared.views.View.{View}
 use Rattle.st_rule.specs.Ends.{IsHistoryOf, HasLogs}
 use Rattle.st_rule.specs.Keys.{told_by}
+use Rattle.st_rule.specs.Rows.{IsUnretired, rows_told, row_word}
 use Rattle.st_rule.specs.Rule.{IsSoundTable}
 use Rattle.st_rule.specs.Views.{mutator_of}
 use Rattle.std.specs.Slots.{slots_items}
 use Rattle.st_rule.proofs.BoardLemmas.{word_within}
-use Rattle.st_rule.proofs.EndLemmas.{final_history, final_logs, final_clock, final_free}
+use Rattle.st_rule.proofs.EndLemmas.{final_history, final_logs, final_clock, final_free, final_rows, final_no_rows}
 use Rattle.st_rule.proofs.tables.Shared.close.Goals as goal
 
 pub word-clock-requires : goal.word-clock-requires
@@ -60,6 +61,31 @@ returns-clause-logs g c =
     subst (λ es. HasLogs es c.args.main.view.hands.joined) (sym (returns-clause-seen g c))
     (final_logs told seat.result.0.id c.args.main.view (c.requires.main ∙ ap (λ t. t.sizes.mutators) c.requires.table.terms) c.requires.joined
     (slots_items c.close_with-closed.result.words) (slots_items c.close_with-closed.result.slots) final)
+
+pub returns-clause-rows : goal.returns-clause-rows
+returns-clause-rows g c = λ check k has none.
+    let told = told_by g.J.Judge.meant g.J.Judge.right c.args.self.table.shared.key in
+    let seat = c.into_parts-seat in
+    let final = subst (λ (x : View). Final (Seen (IsSoundTable told) seat.result.0.id x) (slots_items c.close_with-closed.result.words) (slots_items c.close_with-closed.result.slots))
+    (ap (λ m. m.0) seat.ensures.view) c.close_with-closed.ensures.values.2 in
+    ap (λ rows. row_word rows check k) c.of.ensures.rows
+    ∙ ap (λ x. row_word (rows_told c.args.self.plan (slots_items x.words)) check k) c.of-words.ensures
+    ∙ ap (λ p. row_word (rows_told p (slots_items c.close_with-closed.result.words)) check k) c.args.self.plan_is
+    ∙ final_rows told seat.result.0.id c.args.main.view (c.requires.main ∙ ap (λ t. t.sizes.mutators) c.requires.table.terms) c.requires.joined
+    (slots_items c.close_with-closed.result.words) (slots_items c.close_with-closed.result.slots) final check k has (subst (λ es. IsUnretired es check) (returns-clause-seen g c) none)
+
+pub returns-clause-unlaunched : goal.returns-clause-unlaunched
+returns-clause-unlaunched g c = λ none check k has.
+    let told = told_by g.J.Judge.meant g.J.Judge.right c.args.self.table.shared.key in
+    let seat = c.into_parts-seat in
+    let final = subst (λ (x : View). Final (Seen (IsSoundTable told) seat.result.0.id x) (slots_items c.close_with-closed.result.words) (slots_items c.close_with-closed.result.slots))
+    (ap (λ m. m.0) seat.ensures.view) c.close_with-closed.ensures.values.2 in
+    ap (λ rows. row_word rows check k) c.of.ensures.rows
+    ∙ ap (λ x. row_word (rows_told c.args.self.plan (slots_items x.words)) check k) c.of-words.ensures
+    ∙ ap (λ p. row_word (rows_told p (slots_items c.close_with-closed.result.words)) check k) c.args.self.plan_is
+    ∙ final_no_rows told seat.result.0.id c.args.main.view (c.requires.main ∙ ap (λ t. t.sizes.mutators) c.requires.table.terms) c.requires.joined
+    (slots_items c.close_with-closed.result.words) (slots_items c.close_with-closed.result.slots) final
+    (ap (epoch_of told.terms.shape told.terms.sizes) (sym (returns-clause-seen g c)) ∙ none) check k has
 
 pub returns-clause-free : goal.returns-clause-free
 returns-clause-free g c = λ none.

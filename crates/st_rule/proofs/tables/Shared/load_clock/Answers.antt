@@ -1,4 +1,4 @@
-use Rattle.std.proofs.Common.{◌∙◌, ap}
+use Rattle.std.proofs.Common.{◌∙◌, length, sym, ap}
 use Rattle.st_rule.specs.Keys.{told_by}
 use Rattle.st_rule.specs.Turns.{looked_last}
 use Rattle.st_rule.specs.Views.{mutator_of}
@@ -20,15 +20,20 @@ load-requires g c =
     )
 
 pub invariant_of-seat : goal.invariant_of-seat
-invariant_of-seat g c = last_kept c.seat.invariant c.load.result c.load.ensures.2
+invariant_of-seat g c = last_kept c.seat.invariant c.load.result c.load.ensures.2.learns
 
 pub returns-clause-fair : goal.returns-clause-fair
-returns-clause-fair g c = (last_kept c.seat.invariant c.load.result c.load.ensures.2).fair
+returns-clause-fair g c = (last_kept c.seat.invariant c.load.result c.load.ensures.2.learns).fair
 
 pub returns-clause-view : goal.returns-clause-view
-returns-clause-view g c = learned_at c.seat.invariant looked_last c.load.result c.load.ensures.2 c.args.seat.now.view (ap (λ s. s.view) c.seat.view_is)
+returns-clause-view g c = learned_at c.seat.invariant looked_last c.load.result c.load.ensures.2.learns c.args.seat.now.view (ap (λ s. s.view) c.seat.view_is)
 
 pub returns-clause-found : goal.returns-clause-found
 returns-clause-found g c =
-    let view = c.load.ensures.2.view (mutator_of c.seat.inside.seat.me.0) (ap (λ m. m.0) c.seat.invariant.mutator) in
+    let view = c.load.ensures.2.learns.view (mutator_of c.seat.inside.seat.me.0) (ap (λ m. m.0) c.seat.invariant.mutator) in
     (ap (λ v. (mutator_of v).tally.found) view)
+
+pub returns-clause-counts : goal.returns-clause-counts
+returns-clause-counts g c =
+    let view = c.load.ensures.2.learns.view (mutator_of c.seat.inside.seat.me.0) (ap (λ m. m.0) c.seat.invariant.mutator) in
+    c.load.ensures.2.whole ∙ ap (λ v. length (mutator_of v).journal.seen) (sym view)
