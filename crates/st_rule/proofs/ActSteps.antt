@@ -26,12 +26,14 @@ use Rattle.st_rule.specs.Holding.{Holds, holding, flight_of, shown_stamp, word_l
 use Rattle.st_rule.specs.Board.{stays_loaded}
 use Rattle.st_rule.specs.Parts.{Sits, HasLoaded, ObjectPart}
 use Rattle.st_rule.specs.Plays.{Seated, Becomes, LooksLast, LoadsBoard, IsBoardWord, Locks}
-use Rattle.st_rule.specs.Rule.{Told, Moment, HoldsAt, IsSoundTable, world_of, flights_of, CopiesAt}
+use Rattle.st_rule.specs.Rule.{Told, Moment, HoldsAt, IsSoundTable, world_of, flights_of, CopiesAt, KeptAt}
 use Rattle.st_rule.specs.Turns.{looked_last, board_loaded, locked_at, locked, unlocked, field_found, word_written, with_field, with_written, landed}
 use Rattle.st_rule.proofs.BoardLemmas.{load_displays}
 use Rattle.st_rule.proofs.ViewLemmas.{mut_is, at_here, at_else, at_same}
 use Rattle.st_rule.proofs.LaneLemmas.{lanes_settled, one_flight, none_among}
 use Rattle.st_rule.proofs.CopyLemmas.{ComesFrom, copies_kept}
+use Rattle.st_rule.proofs.KeptLemmas.{kept_reflown}
+use Rattle.st_rule.proofs.KeptLemmas.{kept_reflown}
 use Rattle.st_rule.proofs.ObjectLemmas.{flights_taken, flights_given}
 use Rattle.st_rule.specs.Versions.{LanePart, IsAwaiting}
 use Rattle.st_rule.proofs.ReachLemmas.{may_stand, holder_fits, fresh_header, epoch_short, sound as sound_world}
@@ -163,7 +165,7 @@ module _ (told : Told) (slots id : ℕ) (me : Seated) (v : MutView) (is : me.0 �
 
     -- the same in flight everywhere
     same_versions : (flight' : ℕ → Option Flight) → ((o : ℕ) → flight' o ≡ F o) → VersionsAt told m flight' m.board
-    same_versions flight' same = subst (λ (x : ℕ → Option Flight). VersionsAt told m x m.board) (λ i o. sym (same o) i) (h.lane_part, h.copy_part)
+    same_versions flight' same = subst (λ (x : ℕ → Option Flight). VersionsAt told m x m.board) (λ i o. sym (same o) i) (h.lane_part, h.copy_part, h.kept_part)
 
     pub held_alone : (hand : Held) → v.held ≡ Some hand → (o : ℕ) → Holds (m.grip n) o → o ≡ hand.object
     held_alone hand held o holds = sym (holds_one hand o (subst (λ g. Holds g o) (h.seating.grips id v sits ∙ held) holds))
@@ -193,17 +195,22 @@ module _ (told : Told) (slots id : ℕ) (me : Seated) (v : MutView) (is : me.0 �
         → LanePart told.terms.sizes (world_of told.terms m) (λ l. m.board (LaneWord l)) (m.board AvailableWord) flight' (λ o f. board' (FieldWord o f)) (λ o l. m.board (ForwardWord o l))
         (λ c k. m.board (CopyWord c k)) (λ i. m.board (FreeWord i))
         × CopiesAt told.terms.sizes (world_of told.terms m) m.board m.since flight'
+        × KeptAt told.terms.sizes (world_of told.terms m) m.board m.copy_of flight'
     over_versions hand held x' flight' is board' else' settled over shows comes =
         let same = flight_is hand held in
         subst (λ (x : ℕ → Option Flight).
         LanePart told.terms.sizes (world_of told.terms m) (λ l. m.board (LaneWord l)) (m.board AvailableWord) x (λ o f. board' (FieldWord o f)) (λ o l. m.board (ForwardWord o l))
         (λ c k. m.board (CopyWord c k)) (λ i. m.board (FreeWord i))
-        × CopiesAt told.terms.sizes (world_of told.terms m) m.board m.since x) (λ i o. sym (is o) i) (
+        × CopiesAt told.terms.sizes (world_of told.terms m) m.board m.since x
+        × KeptAt told.terms.sizes (world_of told.terms m) m.board m.copy_of x) (λ i o. sym (is o) i) (
           lanes_settled told.terms.sizes (world_of told.terms m) (λ l. m.board (LaneWord l)) (m.board AvailableWord) F (λ o f. m.board (FieldWord o f)) (λ o l. m.board (ForwardWord o l))
               (λ c k. m.board (CopyWord c k)) (λ i. m.board (FreeWord i)) h.lane_part hand.object x' (λ o f. board' (FieldWord o f)) else'
               (λ l a. settled l (subst (λ z. IsAwaiting z l) same a)) over shows,
           copies_kept told.terms.sizes (world_of told.terms m) (λ l. m.board (LaneWord l)) (m.board AvailableWord) (low_half (m.board ClockWord)) m.since F
               (λ o l. m.board (ForwardWord o l)) (λ i. m.board (FreeWord i)) h.copy_part hand.object x' (subst (λ z. ComesFrom z x') (sym same) comes),
+          kept_reflown told.terms.sizes (world_of told.terms m) (λ l. m.board (LaneWord l)) (m.board AvailableWord) (low_half (m.board ClockWord)) F
+              (λ o l. m.board (ForwardWord o l)) (λ i. m.board (FreeWord i)) m.copy_of h.kept_part hand.object x' (subst (λ z. ComesFrom z x') (sym same) comes)
+              (λ l a. absurd (settled l (subst (λ z. IsAwaiting z l) same a))),
         )
 
     -- lock, where the object was free
@@ -314,8 +321,15 @@ module _ (told : Told) (slots id : ℕ) (me : Seated) (v : MutView) (is : me.0 �
         (ap (λ (t : Flight). t.written) (sym s), ap (λ (t : Flight). t.awaiting) (sym s) ∙ none)
 
     comes_by : (hand : Held) (y : Flight) → hand.flight ≡ Some y → ComesFrom hand.flight (Some (record y { written = true }))
-    comes_by hand y flies z e = let s : record y { written = true } ≡ z = one_flight (record y { written = true }) z e in
-        (y, flies, ap (λ (t : Flight). t.index) (sym s), subst (λ k. y.built ≤ k) (ap (λ (t : Flight). t.built) s) (omega arith))
+    comes_by hand y flies z e = let s : record y { written = true } ≡ z = one_flight (record y { written = true }) z e in (
+      y,
+      flies,
+      record {
+        index = ap (λ (t : Flight). t.index) (sym s);
+        built = subst (λ k. y.built ≤ k) (ap (λ (t : Flight). t.built) s) (omega arith);
+        awaits = λ l among. ap (λ (t : Flight). is_among t.awaiting l) s ∙ among;
+      },
+    )
 
     stores :
         (word object f value new : ℕ) → word ≡ word_of (plan_of told.terms.sizes) (FieldWord object f)

@@ -13,6 +13,7 @@ use Rattle.st_layout.specs.Layout.{word_of}
 use Rattle.st_layout.specs.Packed.{packed, high_half, low_half}
 use Rattle.st_events.specs.declared.limits.TheConstants.{MOST_COPIES}
 use Rattle.st_events.specs.World.{World, at, is_among, is_lost, without}
+use Rattle.st_events.proofs.AmongLemmas.{among_without}
 use Rattle.st_rule.specs.declared.forwards.TheConstants.{LOST}
 use Rattle.st_rule.specs.declared.views.Flight.{Flight}
 use Rattle.st_rule.specs.declared.views.Held.{Held}
@@ -34,11 +35,13 @@ use Rattle.st_rule.specs.Views.{is_closer}
 use Rattle.st_rule.proofs.ActSteps.{phases', holder_keeps, held_alone, flight_is, launched_before, grip_is, is_inside, inside_is, others}
 use Rattle.st_rule.proofs.CopyLemmas.{ComesFrom, copies_kept, copies_forwarded}
 use Rattle.st_rule.proofs.GateSteps.{becomes, store_fits, stays_of}
+use Rattle.st_rule.proofs.KeptLemmas.{kept_reflown, kept_forwarded}
 use Rattle.st_rule.proofs.HoldLemmas.{at_field, field_other, field_elsewhere, objects_reflown, objects_forwarded, landed_there}
 use Rattle.st_rule.proofs.LaneLemmas.{lanes_built, lanes_forwarded, one_flight}
 use Rattle.st_rule.proofs.LoadedLemmas.{written_else}
 use Rattle.st_rule.proofs.ObjectLemmas.{flights_taken}
 use Rattle.st_rule.proofs.PackedLemmas.{high_packed, low_packed}
+use Rattle.st_rule.proofs.ReachLemmas.{sound as sound_world}
 use Rattle.st_rule.proofs.TurnLemmas.{StaysOnBoard, VersionsAt}
 use Rattle.st_rule.proofs.ViewLemmas.{at_here, at_else}
 
@@ -161,9 +164,17 @@ module _ (told : Told) (slots id : ℕ) (me : Seated) (v : MutView) (is : me.0 �
         → flights_of (at n (Some (record hand { flight = Some z })) m.grip) (at hand.object (suc n) m.holder) o ≡ at hand.object (Some z) flights o
     flights_now z = flights_taken m.grip m.holder h.object_part.named n hand.object (Some (record hand { flight = Some z })) (held_alone told slots id me v is s m h sits hand has.held)
 
-    comes : (z : Flight) → z.index ≡ y.index → y.built ≤ z.built → ComesFrom (flights hand.object) (Some z)
-    comes z index more x e = let same = one_flight z x e in
-        (y, flies_is, ap (λ (t : Flight). t.index) (sym same) ∙ index, subst (λ (t : Flight). y.built ≤ t.built) same more)
+    comes : (z : Flight) → z.index ≡ y.index → y.built ≤ z.built → ((l : ℕ) → is_among z.awaiting l ≡ true → is_among y.awaiting l ≡ true)
+        → ComesFrom (flights hand.object) (Some z)
+    comes z index more fewer x e = let same = one_flight z x e in (
+      y,
+      flies_is,
+      record {
+        index = ap (λ (t : Flight). t.index) (sym same) ∙ index;
+        built = subst (λ (t : Flight). y.built ≤ t.built) same more;
+        awaits = λ l among. fewer l (ap (λ (t : Flight). is_among t.awaiting l) same ∙ among);
+      },
+    )
 
   -- copy store
   copies_word :
@@ -185,7 +196,9 @@ module _ (told : Told) (slots id : ℕ) (me : Seated) (v : MutView) (is : me.0 �
       let mine = h.copy_part.indexes hand.object y free.index (flies_is awaits.has) free.drawn in
       holder_keeps told slots id me v is s m h sits (copy_stored v) (stays_of v (copy_stored v) refl refl refl refl refl) refl refl refl (Some (record hand { flight = Some z }))
       (ap with_built awaits.has.held ∙ ap (λ x. Some (record hand { flight = one_built x })) awaits.has.flies)
-      (written (CopyWord c y.built) value m.board) (lone_quiet (inside awaits.has) (CopyWord c y.built) value (copies_are_lone c y.built) refl (λ o l epoch. refl) (λ check k. refl)) (λ j. refl) refl (at hand.object (suc n) m.holder)
+      (written (CopyWord c y.built) value m.board)
+      (lone_quiet (inside awaits.has) (CopyWord c y.built) value (copies_are_lone c y.built) refl (λ o l epoch. refl)
+      (λ check k. refl)) (λ j. refl) refl (at hand.object (suc n) m.holder)
       (objects_with awaits.has z refl refl refl)
       (subst (λ (x : ℕ → Option Flight). VersionsAt told m x (written (CopyWord c y.built) value m.board)) (λ i o. sym (flights_now awaits.has z o) i) (
         lanes_built told.terms.sizes w (λ l. m.board (LaneWord l)) (m.board AvailableWord) flights (λ o f. m.board (FieldWord o f)) (λ o l. m.board (ForwardWord o l))
@@ -197,7 +210,10 @@ module _ (told : Told) (slots id : ℕ) (me : Seated) (v : MutView) (is : me.0 �
             other (h.copy_part.differ o hand.object x y j flies (flies_is awaits.has) drawn (free.drawn ∙ ap Some (sym one))))
             (λ c' lt. copy_is_not_lost told.terms.sizes.copies c' h.limits.copies lt),
         copies_kept told.terms.sizes w (λ l. m.board (LaneWord l)) (m.board AvailableWord) (low_half (m.board ClockWord)) m.since flights
-            (λ o l. m.board (ForwardWord o l)) (λ i. m.board (FreeWord i)) h.copy_part hand.object (Some z) (comes awaits.has z refl (omega arith)),
+            (λ o l. m.board (ForwardWord o l)) (λ i. m.board (FreeWord i)) h.copy_part hand.object (Some z) (comes awaits.has z refl (omega arith) (λ l among. among)),
+        kept_reflown told.terms.sizes w (λ l. m.board (LaneWord l)) (m.board AvailableWord) (low_half (m.board ClockWord)) flights
+            (λ o l. m.board (ForwardWord o l)) (λ i. m.board (FreeWord i)) m.copy_of h.kept_part hand.object (Some z) (comes awaits.has z refl (omega arith) (λ l among. among))
+            (λ l waits. record { one = z; flies = refl; awaits = ap (λ (t : Flight). is_among t.awaiting l) (one_flight y waits.one (sym (flies_is awaits.has) ∙ waits.flies)) ∙ waits.awaits }),
       ))
       word new
       (subst (λ (x : (ℕ × ℕ) × ℕ). Displays (plan_of told.terms.sizes) (set s.words word x.1) (written (CopyWord x.0.0 x.0.1) value m.board))
@@ -223,7 +239,8 @@ module _ (told : Told) (slots id : ℕ) (me : Seated) (v : MutView) (is : me.0 �
       holder_keeps told slots id me v is s m h sits (forwarded lane v) (stays_of v (forwarded lane v) refl refl refl refl refl) refl refl refl (Some (record hand { flight = Some z }))
       (ap (with_forward lane) awaits.has.held ∙ ap (λ x. Some (record hand { flight = owed_less lane x })) awaits.has.flies)
       (written (ForwardWord hand.object lane) (packed (m.board (LaneWord lane)) low) m.board)
-      (lone_quiet (inside awaits.has) (ForwardWord hand.object lane) (packed (m.board (LaneWord lane)) low) (forwards_are_lone hand.object lane) refl (still_told awaits.has lane awaits.awaits (packed (m.board (LaneWord lane)) low)) (λ check k. refl)) (λ j. refl) refl (at hand.object (suc n) m.holder)
+      (lone_quiet (inside awaits.has) (ForwardWord hand.object lane) (packed (m.board (LaneWord lane)) low) (forwards_are_lone hand.object lane) refl
+      (still_told awaits.has lane awaits.awaits (packed (m.board (LaneWord lane)) low)) (λ check k. refl)) (λ j. refl) refl (at hand.object (suc n) m.holder)
       (objects_forwarded told.terms.sizes w (phases' told slots id me v is s m h sits) (at n (Some (record hand { flight = Some z })) m.grip) (at hand.object (suc n) m.holder)
       (λ o. m.board (HeaderWord o)) (λ o. m.board (ClassWord o)) (λ o f. m.board (FieldWord o f)) (λ o l. m.board (ForwardWord o l))
       (at_field hand.object lane (packed (m.board (LaneWord lane)) low) (λ o l. m.board (ForwardWord o l)))
@@ -239,9 +256,20 @@ module _ (told : Told) (slots id : ℕ) (me : Seated) (v : MutView) (is : me.0 �
             (launched_before told slots id me v is s m h sits hand y awaits.has.held awaits.has.flies)
             (high_packed (m.board (LaneWord lane)) low t.2) low_is t.3,
         copies_forwarded told.terms.sizes w (λ l. m.board (LaneWord l)) (m.board AvailableWord) (low_half (m.board ClockWord)) m.since flights
-            (λ o l. m.board (ForwardWord o l)) (λ i. m.board (FreeWord i)) h.copy_part hand.object (Some z) (comes awaits.has z refl (omega arith))
+            (λ o l. m.board (ForwardWord o l)) (λ i. m.board (FreeWord i)) h.copy_part hand.object (Some z)
+            (comes awaits.has z refl (omega arith) (λ l among. (among_without lane y.awaiting l among).0))
             lane (packed (m.board (LaneWord lane)) low) y (flies_is awaits.has)
             (λ c is_low kept. t.4 c (sym low_is ∙ is_low) (λ e. kept (low_is ∙ e))),
+        kept_forwarded told.terms.sizes w (λ l. m.board (LaneWord l)) (m.board AvailableWord) (low_half (m.board ClockWord)) flights
+            (λ o l. m.board (ForwardWord o l)) (λ i. m.board (FreeWord i)) m.copy_of h.kept_part hand.object y (flies_is awaits.has)
+            lane (packed (m.board (LaneWord lane)) low) awaits.awaits lane_within
+            (h.lane_part.owed hand.object lane y (flies_is awaits.has) awaits.awaits).active (high_packed (m.board (LaneWord lane)) low t.2)
+            (λ c is_low named. let free = t.4 c (sym low_is ∙ is_low) (λ e. named (low_is ∙ e)) in (free.0, free.1, free.2, free.3))
+            (⊎_elim
+            (λ one. inl (one.0, low_is ∙ one.1, λ e. copy_is_not_lost told.terms.sizes.copies one.0 h.limits.copies one.2 (sym one.1 ∙ sym low_is ∙ e)))
+            (λ gone. inr (λ kept.
+            let e : false ≡ true = sym ((sound_world told id v m s.words s.views h sits).rows.not_both hand.object (m.board (LaneWord lane)) kept) ∙ gone.1 in absurd cc))
+            t.3),
       ))
       word new
       (subst (λ (x : ℕ × ℕ × ℕ). Displays (plan_of told.terms.sizes) (set s.words word x.1) (written (ForwardWord x.0 lane) x.2 m.board))
@@ -314,5 +342,10 @@ module _ (told : Told) (slots id : ℕ) (me : Seated) (v : MutView) (is : me.0 �
       → new ≡ value
       → AwaitsForward v object lane value
       → Allows (IsSoundTable told) slots id me word (λ _. new) (λ _ after. Becomes (λ _ u. forwarded lane u) me new after)
-  forward_store_keeps word object lane value new is_word within lane_within is_new awaits s sound wide at_id _ =
-      (Mut (forwarded lane v), keeps, tt, forwards_word told slots id me v is s sound.0 sound.1 (at_id ∙ ap some is) word object lane value new is_word within lane_within is_new awaits, becomes (λ _ u. forwarded lane u) me v new is)
+  forward_store_keeps word object lane value new is_word within lane_within is_new awaits s sound wide at_id _ = (
+    Mut (forwarded lane v),
+    keeps,
+    tt,
+    forwards_word told slots id me v is s sound.0 sound.1 (at_id ∙ ap some is) word object lane value new is_word within lane_within is_new awaits,
+    becomes (λ _ u. forwarded lane u) me v new is,
+  )

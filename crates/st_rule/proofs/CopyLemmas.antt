@@ -1,5 +1,5 @@
 -- What a holder's step on its object makes of the part on copies.
-use Rattle.std.proofs.Common.{◌≡◌, ◌≢◌, ℕ, suc, ◌+◌, ◌<◌, ◌≤◌, ◌⊎◌, length}
+use Rattle.std.proofs.Common.{◌≡◌, ◌≢◌, ℕ, suc, ◌+◌, ◌<◌, ◌≤◌, ◌⊎◌, true, length}
 use Rattle.std.proofs.Common.{Option, Some, None, sym, refl, ap, subst, ◌∙◌, arith, ⊎_elim, inl, inr}
 use mathlib.Core.Logic.{dite}
 use native.Mathlib.Decide.{ℕ_discrete}
@@ -14,9 +14,15 @@ use Rattle.st_rule.proofs.HoldLemmas.{at_field, field_here, field_other, field_e
 use Rattle.st_rule.proofs.LaneLemmas.{each_flight, one_flight}
 use Rattle.st_rule.proofs.ViewLemmas.{at_here, at_else}
 
--- what is in flight at the object afterwards was before, with the same index, and of its copy no less is written
+-- what was in flight is what is, with the same index; of its copy no less is written, and no more lanes await their words
+pub record IsSameFlight (old y : Flight) : Type 0 where
+  pub index : y.index ≡ old.index
+  pub built : old.built ≤ y.built
+  pub awaits : (l : ℕ) → is_among y.awaiting l ≡ true → is_among old.awaiting l ≡ true
+
+-- what is in flight at the object afterwards was before
 abbrev pub ComesFrom : Option Flight → Option Flight → Type 0
-ComesFrom x x' = (y : Flight) → x' ≡ Some y → (old : Flight) × (x ≡ Some old) × (y.index ≡ old.index) × (old.built ≤ y.built)
+ComesFrom x x' = (y : Flight) → x' ≡ Some y → (old : Flight) × (x ≡ Some old) × IsSameFlight old y
 
 module _ (sizes : Sizes) (world : World) (lane : ℕ → ℕ) (available drawn since : ℕ) (flight : ℕ → Option Flight) (forward : ℕ → ℕ → ℕ) (free : ℕ → ℕ)
     (part : CopyPart sizes world lane available drawn since flight forward free) where
@@ -28,9 +34,9 @@ module _ (sizes : Sizes) (world : World) (lane : ℕ → ℕ) (available drawn s
     flight' = at object x' flight
 
     -- each flight was one before
-    pub came : (o : ℕ) (y : Flight) → at object x' flight o ≡ Some y → (old : Flight) × (flight o ≡ Some old) × (y.index ≡ old.index) × (old.built ≤ y.built)
-    came o = each_flight (λ o z. (y : Flight) → z ≡ Some y → (old : Flight) × (flight o ≡ Some old) × (y.index ≡ old.index) × (old.built ≤ y.built))
-        object x' flight comes (λ o other y is. (y, is, refl, omega arith)) o
+    pub came : (o : ℕ) (y : Flight) → at object x' flight o ≡ Some y → (old : Flight) × (flight o ≡ Some old) × IsSameFlight old y
+    came o = each_flight (λ o z. (y : Flight) → z ≡ Some y → (old : Flight) × (flight o ≡ Some old) × IsSameFlight old y)
+        object x' flight comes (λ o other y is. (y, is, record { index = refl; built = omega arith; awaits = λ l among. among })) o
 
     -- unlock, the store of the word of what is in flight, and copy store
     pub copies_kept : CopyPart sizes world lane available drawn since (at object x' flight) forward free
@@ -41,12 +47,12 @@ module _ (sizes : Sizes) (world : World) (lane : ℕ → ℕ) (available drawn s
       since_then = part.since_then;
       named = part.named;
       once = part.once;
-      indexes = λ o y i is e. let old = came o y is in part.indexes o old.0 i old.1 (sym old.2 ∙ e);
-      differ = λ o p y z i is_y is_z e d. let a = came o y is_y in let b = came p z is_z in part.differ o p a.0 b.0 i a.1 b.1 (sym a.2 ∙ e) (sym b.2 ∙ d);
+      indexes = λ o y i is e. let old = came o y is in part.indexes o old.0 i old.1 (sym old.2.index ∙ e);
+      differ = λ o p y z i is_y is_z e d. let a = came o y is_y in let b = came p z is_z in part.differ o p a.0 b.0 i a.1 b.1 (sym a.2.index ∙ e) (sym b.2.index ∙ d);
       spares_free = part.spares_free;
       spares_built = λ o l c named p y i is e below few. let old = came p y is in
-          let less : old.0.built ≤ y.built = old.3 in
-          part.spares_built o l c named p old.0 i old.1 (sym old.2 ∙ e) below (omega (arith, less, few));
+          let less : old.0.built ≤ y.built = old.2.built in
+          part.spares_built o l c named p old.0 i old.1 (sym old.2.index ∙ e) below (omega (arith, less, few));
     }
 
     -- forward store: the word of one lane names a copy that is complete, or none
@@ -111,11 +117,11 @@ module _ (sizes : Sizes) (world : World) (lane : ℕ → ℕ) (available drawn s
             (λ same. let below = (part.indexes object x new.0 flies new.1).1 in absurd (omega (arith, below, same, from))))
             (named_by o l c named);
         spares_built = λ o l c named p y i is e below few. let from = came p y is in
-            let less : from.0.built ≤ y.built = from.3 in
+            let less : from.0.built ≤ y.built = from.2.built in
             let few' : from.0.built ≤ MOST_FIELDS = omega (arith, less, few) in
             ⊎_elim
-            (λ old. part.spares_built o l c old p from.0 i from.1 (sym from.2 ∙ e) below few')
-            (λ new. spares new.0 c new.1 new.2 new.3 new.4 p from.0 i from.1 (sym from.2 ∙ e) below few')
+            (λ old. part.spares_built o l c old p from.0 i from.1 (sym from.2.index ∙ e) below few')
+            (λ new. spares new.0 c new.1 new.2 new.3 new.4 p from.0 i from.1 (sym from.2.index ∙ e) below few')
             (named_by o l c named);
       }
 

@@ -117,7 +117,8 @@ module _ (told : Told) (id : ℕ) (v : MutView) (m : Moment) (words : List ℕ) 
   objects_next index (Cas t obj f expect value done) s =
       subst (λ (o : ℕ). ObjectsAfter index (Cas t o f expect value done)) (sym s.1)
       (objects_cas told.terms.sizes w m.phase m.phase m.grip m.holder (λ o. m.board (HeaderWord o)) (λ o. m.board (ClassWord o))
-      (λ o f. m.board (FieldWord o f)) (λ o l. m.board (ForwardWord o l)) h.object_part n (λ k other. refl) hand grip_is may.quiet is_inside told.terms.shape (needing_lanes v hand) index t f expect value done
+      (λ o f. m.board (FieldWord o f)) (λ o l. m.board (ForwardWord o l)) h.object_part n (λ k other. refl) hand grip_is may.quiet is_inside told.terms.shape
+      (needing_lanes v hand) index t f expect value done
       (cell_now f s.2.cell))
   objects_next index (Launch t site number args) s = absurd s
   objects_next index (Retire t number) s = absurd s

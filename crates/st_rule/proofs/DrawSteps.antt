@@ -32,10 +32,10 @@ use Rattle.st_rule.specs.Entries.{own_entries, charge_of, charge_of_all, charge_
 use Rattle.st_rule.specs.Board.{stays_loaded}
 use Rattle.st_rule.specs.Parts.{Sits, JournalPart, GatePart, BoardPart, LoadedPart, HasLoaded, ObjectPart, HandPart, IsJoined, Seating}
 use Rattle.st_rule.specs.Plays.{Seated, Draws}
-use Rattle.st_rule.specs.Rule.{Told, Moment, HoldsAt, IsSoundTable, world_of, flights_of, LanesAt, CopiesAt, ReadsAt}
+use Rattle.st_rule.specs.Rule.{Told, Moment, HoldsAt, IsSoundTable, world_of, flights_of, LanesAt, CopiesAt, KeptAt, ReadsAt}
 use Rattle.st_rule.specs.Needs.{needing_lanes, takes_copy, is_change, is_any}
 use Rattle.st_rule.proofs.NeedLemmas.{some_of, needs}
-use Rattle.st_rule.proofs.DrawVersions.{VersionsAfter, after_event, versions_drawn, copies_of}
+use Rattle.st_rule.proofs.DrawVersions.{VersionsAfter, after_event, versions_drawn, copies_of, copies_after}
 use Rattle.st_rule.proofs.ReachLemmas.{sound}
 use Rattle.st_rule.specs.Views.{seen_by, is_closer}
 use Rattle.st_rule.proofs.DrawEvents.{suits_own, suits_other}
@@ -231,7 +231,8 @@ module _ (told : Told) (id : ℕ) (v : MutView) (m : Moment) (words : List ℕ) 
 
   -- the parts on old versions
   versions : VersionsAfter told m (after_event told m event) (flights_of (at n (Some (record may.hand { flight = left_in_flight before.heap (needing_lanes v may.hand) (low_half word) event })) m.grip)
-      (at may.hand.object (suc n) m.holder)) (written ClockWord (packed (high_half (m.board ClockWord) + 1) (low_half (m.board ClockWord) + copies_of copy)) m.board)
+      (at may.hand.object (suc n) m.holder)) (copies_after told m may.hand.object)
+      (written ClockWord (packed (high_half (m.board ClockWord) + 1) (low_half (m.board ClockWord) + copies_of copy)) m.board)
   versions = versions_drawn told id v m words views h sits event copy may (low_half word) (ap low_half is_clock)
       (packed (high_half (m.board ClockWord) + 1) (low_half (m.board ClockWord) + copies_of copy))
       (low_packed (high_half (m.board ClockWord) + 1) (low_half (m.board ClockWord) + copies_of copy) low_fits)
@@ -296,6 +297,7 @@ module _ (told : Told) (id : ℕ) (v : MutView) (m : Moment) (words : List ℕ) 
     journal = m.journal ++ event ∷ [];
     grip = at v.gate.number (Some (record may.hand { flight = left_in_flight before.heap (needing_lanes v may.hand) (low_half word) event })) m.grip;
     holder = at may.hand.object (suc v.gate.number) m.holder;
+    copy_of = copies_after told m may.hand.object;
   }
 
   seating_next : Seating told.terms m.phase (at n (Some (record may.hand { flight = left_in_flight before.heap (needing_lanes v may.hand) (low_half word) event })) m.grip) m.seat m.split views'
@@ -331,6 +333,7 @@ module _ (told : Told) (id : ℕ) (v : MutView) (m : Moment) (words : List ℕ) 
         (sym world_is) (objects_next told id v m words views h sits event copy may (low_half word) event may.suits);
     lane_part = subst (λ x. LanesAt told.terms.sizes x board' (flights_of drawn.grip drawn.holder)) (sym world_is) versions.0;
     copy_part = subst (λ x. CopiesAt told.terms.sizes x board' m.since (flights_of drawn.grip drawn.holder)) (sym world_is) versions.1;
+    kept_part = subst (λ x. KeptAt told.terms.sizes x board' (copies_after told m may.hand.object) (flights_of drawn.grip drawn.holder)) (sym world_is) versions.2;
     read_part = subst (λ x. ReadsAt told.terms x board' views') (sym world_is) (record {
       reads = lanes_stay views id w (λ j u. IsReading told.terms after (λ l. board' (LaneWord l)) (λ o l. board' (ForwardWord o l)) u)
           (λ j u there. reading_on told.terms before after (λ l. m.board (LaneWord l)) (λ l. board' (LaneWord l))

@@ -133,7 +133,7 @@ module _ (told : Told) (id : ℕ) (v : MutView) (m : Moment) (words : List ℕ) 
     still_keeps same_held s' is_views displays =
         let inside : (o : ℕ) → Holds w.held o → w.gate.phase ≡ Inside = λ o holds. same_phase ∙ holds_inside o (subst (λ g. Holds g o) same_held holds) in
         acts_keep m.grip (grip_kept w stays same_held inside) (λ j other. refl) m.board (leaves_board (λ p name keeps. refl)) (λ n. refl) refl m.holder
-        (objects_kept w stays same_held inside) (h.lane_part, h.copy_part) s' is_views displays
+        (objects_kept w stays same_held inside) (h.lane_part, h.copy_part, h.kept_part) s' is_views displays
 
 -- the view that the seat has, where the step may also show it more of the journal
 abbrev pub learns :
@@ -195,7 +195,7 @@ module _ (told : Told) (id : ℕ) (v : MutView) (m : Moment) (s : State Unit Vie
         (written (FlagWord w.gate.number) value m.board) (leaves_board (written_quiet (FlagWord w.gate.number) value m.board (flags_fleet w.gate.number)))
         (flag_written told.terms.sizes.mutators w.gate.number w.gate.phase m.board m.phase (tells told id v m s.words s.views h sits) value is_value
         (out ∙ sym was_out ∙ ap is_closer (sym (is_phase told id v m s.words s.views h sits)) ∙ ap (λ n. is_closer (m.phase n)) (sym stays.put.number)))
-        m.holder (objects_kept told id v m s.words s.views h sits w stays same_held none_inside) (h.lane_part, h.copy_part)
+        m.holder (objects_kept told id v m s.words s.views h sits w stays same_held none_inside) (h.lane_part, h.copy_part, h.kept_part)
         (record { words = set s.words word value; homes = s.homes; views = set s.views id (Mut w) }) refl
         (store_fits told id v m s.words s.views h sits word (FlagWord w.gate.number) value
         (is_word ∙ ap (λ n. word_of (plan_of told.terms.sizes) (FlagWord n)) (sym stays.put.number))
@@ -271,7 +271,7 @@ module _ (told : Told) (slots id : ℕ) (me : Seated) (v : MutView) (is : me.0 �
       turn_keeps told m s.words s.views h id v w sits stays.put
       m.grip (grip_kept told id v m s.words s.views h sits w stays refl (λ o holds. refl)) (λ j other. refl) turns (inl refl) stays.entries m.board (leaves_board (λ p name keeps. refl))
       (words_kept told.terms.sizes.mutators v.gate.number Inside m.board m.phase (tells told id v m s.words s.views h sits) (ap flag_of (sym before)) (ap is_closer (sym before)))
-      m.holder (objects_kept told id v m s.words s.views h sits w stays refl (λ o holds. refl)) (h.lane_part, h.copy_part)
+      m.holder (objects_kept told id v m s.words s.views h sits w stays refl (λ o holds. refl)) (h.lane_part, h.copy_part, h.kept_part)
       (record { words = set s.words word (get_or s.words word 0); homes = s.homes; views = set s.views id (Mut w) }) refl
       (load_displays (plan_of told.terms.sizes) s.words m.board word h.displayed)
   looks_as s m h sits word is_word entering false is_open =
@@ -369,7 +369,7 @@ module _ (told : Told) (slots id : ℕ) (me : Seated) (v : MutView) (is : me.0 �
         tt,
         turn_keeps told m s.words s.views h id v w sits stays.put m.grip (grip_kept told id v m s.words s.views h sits w stays refl none) (λ j other. refl) turns (inr refl) stays.entries
             (written ClosingWord (v.gate.number + 1) m.board) (leaves_board (written_quiet ClosingWord (v.gate.number + 1) m.board closing_fleets)) tell
-            m.holder (objects_kept told id v m s.words s.views h sits w stays refl none) (h.lane_part, h.copy_part)
+            m.holder (objects_kept told id v m s.words s.views h sits w stays refl none) (h.lane_part, h.copy_part, h.kept_part)
             (record { words = set s.words word new; homes = s.homes; views = set s.views id (Mut w) }) refl
             (subst (λ x. Displays (plan_of told.terms.sizes) (set s.words word x) (written ClosingWord (v.gate.number + 1) m.board)) (sym is_new)
             (store_fits told id v m s.words s.views h sits word ClosingWord (v.gate.number + 1) is_word tt)),
@@ -421,7 +421,7 @@ module _ (told : Told) (slots id : ℕ) (me : Seated) (v : MutView) (is : me.0 �
         turn_keeps told m s.words s.views h id v w sits stays.put m.grip (grip_kept told id v m s.words s.views h sits w stays refl none) (λ j other. refl) turns (inr refl) stays.entries
             m.board (leaves_board (λ p name keeps. refl))
             (words_kept mutators v.gate.number w.gate.phase m.board m.phase (tells told id v m s.words s.views h sits) (says.1 ∙ ap flag_of (sym before)) (says.0 ∙ ap is_closer (sym before)))
-            m.holder (objects_kept told id v m s.words s.views h sits w stays refl none) (h.lane_part, h.copy_part)
+            m.holder (objects_kept told id v m s.words s.views h sits w stays refl none) (h.lane_part, h.copy_part, h.kept_part)
             (record { words = set s.words word found; homes = s.homes; views = set s.views id (Mut w) }) refl
             (load_displays (plan_of told.terms.sizes) s.words m.board word h.displayed),
         learns (saw n) me v found m.journal w is (ap (λ b. saw_flag b n found m.journal v) (sym (eq-eqb found 0 is_zero)))
@@ -464,7 +464,7 @@ module _ (told : Told) (slots id : ℕ) (me : Seated) (v : MutView) (is : me.0 �
             (quiet told id v m s h sits w stays refl refl refl (λ e. absurd cc) empty) (inl refl) stays.entries
             (written ClosingWord 0 m.board) (leaves_board (written_quiet ClosingWord 0 m.board closing_fleets))
             (closing_given told.terms.sizes.mutators v.gate.number Outside m.board m.phase (tells told id v m s.words s.views h sits) mine (ap flag_of (sym before)) refl)
-            m.holder (objects_kept told id v m s.words s.views h sits w stays refl none) (h.lane_part, h.copy_part)
+            m.holder (objects_kept told id v m s.words s.views h sits w stays refl none) (h.lane_part, h.copy_part, h.kept_part)
             (record { words = set s.words word value; homes = s.homes; views = set s.views id (Mut w) }) refl
             (subst (λ x. Displays (plan_of told.terms.sizes) (set s.words word x) (written ClosingWord 0 m.board)) (sym is_value)
             (store_fits told id v m s.words s.views h sits word ClosingWord 0 is_word tt)),

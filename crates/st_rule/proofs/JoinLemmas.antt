@@ -185,6 +185,7 @@ module _ (told : Told) (id : ℕ) (v : MutView) (other : ℕ) (u : MutView) (m :
     object_part = h.object_part;
     lane_part = h.lane_part;
     copy_part = h.copy_part;
+    kept_part = h.kept_part;
     read_part = record {
       reads = λ j x there. ⊎_elim
           (λ gone. absurd (gone_is_no_lane x gone.1))

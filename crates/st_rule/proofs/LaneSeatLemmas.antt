@@ -44,7 +44,8 @@ pub reads_field :
     (object field place word : ℕ) (me after : Seated) (u : LaneView) → me.0 ≡ Lane u → field < MOST_FIELDS → place ≡ word_of (plan_of u.terms.sizes) (FieldWord object field)
     → LaneBecomes (field_read object field) me word after → ReadsField place me word after
 reads_field object field place word me after u is few is_place becomes = record {
-  reads = λ x e. let both = both_tell (plan_of x.terms.sizes) object field place few (is_place ∙ ap (λ (y : LaneView). word_of (plan_of y.terms.sizes) (FieldWord object field)) (lane_is u x (sym is ∙ e))) in
+  reads = λ x e. let both = both_tell (plan_of x.terms.sizes) object field place few
+      (is_place ∙ ap (λ (y : LaneView). word_of (plan_of y.terms.sizes) (FieldWord object field)) (lane_is u x (sym is ∙ e))) in
       subst (λ (t : ℕ × ℕ). LaneBecomes (field_read t.0 t.1) me word after) (λ i. (sym both.0 i, sym both.1 i)) becomes;
 }
 
@@ -75,7 +76,8 @@ module _ {before : Seated} (keeps : KeepsLane before) where
   u_is = ap (λ m. m.0) keeps.lane
 
   module _ {after : Seated} where
-    lane_kept : (x : LaneView) → after.0 ≡ Lane x → after.1 ≡ before.1 → x.lane ≡ u.lane → x.check ≡ u.check → IsFairLane x → KeepsLane after × (u.lane ≡ (lane_of after.0).lane) × (u.check ≡ (lane_of after.0).check)
+    lane_kept : (x : LaneView) → after.0 ≡ Lane x → after.1 ≡ before.1 → x.lane ≡ u.lane → x.check ≡ u.check → IsFairLane x
+        → KeepsLane after × (u.lane ≡ (lane_of after.0).lane) × (u.check ≡ (lane_of after.0).check)
     lane_kept x is slots same same_check fair = let here : x ≡ lane_of after.0 = sym (ap lane_of is) in (
       record {
         lane = λ k. ((is ∙ ap Lane here) k, (slots ∙ ap (λ m. m.1) keeps.lane) k);

@@ -60,9 +60,12 @@ module _ (told : Told) (id : ℕ) (u : LaneView) (m : Moment) (s : State Unit Vi
 
   -- its lane at an object of its past
   pub lane_at : (object : ℕ) → IsSome (past_of u object)
-      → LaneAt told.terms.sizes w (flights_of m.grip m.holder object) (λ f. m.board (FieldWord object f)) (m.board (ForwardWord object u.lane)) (λ c k. m.board (CopyWord c k)) object u.lane u.check (past_of u)
+      → LaneAt told.terms.sizes w (flights_of m.grip m.holder object) (λ f. m.board (FieldWord object f)) (m.board (ForwardWord object u.lane))
+      (λ c k. m.board (CopyWord c k)) object u.lane u.check (past_of u)
   lane_at object stood =
-      subst (λ (t : ℕ × Heap). LaneAt told.terms.sizes w (flights_of m.grip m.holder object) (λ f. m.board (FieldWord object f)) (m.board (ForwardWord object u.lane)) (λ c k. m.board (CopyWord c k)) object u.lane t.0 t.1)
+      subst (λ (t : ℕ × Heap).
+      LaneAt told.terms.sizes w (flights_of m.grip m.holder object) (λ f. m.board (FieldWord object f)) (m.board (ForwardWord object u.lane))
+      (λ c k. m.board (CopyWord c k)) object u.lane t.0 t.1)
       (λ i. (reading.has_lane i, reading.past i))
       (h.lane_part.lanes u.lane object reading.launch reading.within (subst (λ n. is_among w.active n ≡ true) (sym reading.has_lane) reading.active)
       (ap w.launched reading.has_lane ∙ reading.launched) (subst (λ (x : Heap). IsSome (x object)) (sym reading.past) stood))
@@ -119,6 +122,7 @@ module _ (told : Told) (id : ℕ) (u : LaneView) (m : Moment) (s : State Unit Vi
       object_part = h.object_part;
       lane_part = h.lane_part;
       copy_part = h.copy_part;
+      kept_part = h.kept_part;
       read_part = record {
         reads = λ j y there. all_set (λ j z. (y : LaneView) → z ≡ Lane y → IsReading told.terms w (λ l. m.board (LaneWord l)) (λ o l. m.board (ForwardWord o l)) y) s.views id (Lane x)
             (λ y e. subst (IsReading told.terms w (λ l. m.board (LaneWord l)) (λ o l. m.board (ForwardWord o l))) (lane_is x y e) reads)

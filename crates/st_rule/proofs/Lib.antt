@@ -27,6 +27,8 @@ pub mod StartLemmas
 pub mod WordLemmas
 pub mod LaneLemmas
 pub mod CopyLemmas
+pub mod ShareLemmas
+pub mod KeptLemmas
 pub mod NeedLemmas
 pub mod PoolLemmas
 pub mod DrawVersions

@@ -24,7 +24,8 @@ use Rattle.st_rule.specs.Parts.{Sits}
 use Rattle.st_rule.specs.Rule.{Told, Moment, HoldsAt, world_of}
 use Rattle.st_rule.proofs.ReachLemmas.{sound}
 
-lt_true : (a b : ℕ) → nat_lt a b ≡ true → a < b
+-- a number that tests as below another is
+pub lt_true : (a b : ℕ) → nat_lt a b ≡ true → a < b
 lt_true a b e = grind (arith, nat_tests)
 
 le_true : (a b : ℕ) → nat_le a b ≡ true → a ≤ b

@@ -31,7 +31,15 @@ module _ (sizes : Sizes) (w : World) (object : ℕ) where
           lt : nat_lt (length w.kept) sizes.copies ≡ true
           lt = grind (arith, nat_tests)
 
-  kept_same : sizes.copies ≤ length w.kept → kept_at_change sizes w object ≡ w.kept
+  -- where a copy is left, the rows are one more, if some check needs the old version
+  pub kept_grows : length w.kept < sizes.copies → kept_at_change sizes w object ≡ w.kept ++ row_if_needed object (needing_in w object)
+  kept_grows few = ap (λ x. if not x then w.kept else (w.kept ++ row_if_needed object (needing_in w object))) lt
+    where
+      lt : nat_lt (length w.kept) sizes.copies ≡ true
+      lt = grind (arith, nat_tests)
+
+  -- and else they stay as they are
+  pub kept_same : sizes.copies ≤ length w.kept → kept_at_change sizes w object ≡ w.kept
   kept_same full = ap (λ x. if not x then w.kept else (w.kept ++ row_if_needed object (needing_in w object))) not_lt
     where
       not_lt : nat_lt (length w.kept) sizes.copies ≡ false

@@ -198,6 +198,7 @@ module _ (told : Told) (id : ℕ) (v : MutView) (m : Moment) (words : List ℕ) 
     object_part = h.object_part;
     lane_part = h.lane_part;
     copy_part = h.copy_part;
+    kept_part = h.kept_part;
     read_part = record {
       reads = λ j u there. ⊎_elim
           (λ old. lanes_stay views id l (λ j u. IsReading told.terms (world_of told.terms m) (λ l. m.board (LaneWord l)) (λ o l. m.board (ForwardWord o l)) u) h.read_part.reads j u old)

@@ -91,7 +91,7 @@ module _ (told : Told) (fits : AreWithinLimits told.terms.sizes) (shape_fits : I
   v = first_view told.terms
 
   abbrev m : Moment
-  m = record { board = first_board (plan_of told.terms.sizes); journal = []; phase = λ _. Outside; grip = λ _. None; holder = λ _. 0; seat = λ _. 0; split = 0; since = 0 }
+  m = record { board = first_board (plan_of told.terms.sizes); journal = []; phase = λ _. Outside; grip = λ _. None; holder = λ _. 0; seat = λ _. 0; split = 0; since = 0; copy_of = λ _ _. 0 }
 
   pub start_sound : IsSoundTable told (opening words [] (Mut (first_view told.terms)))
   start_sound = (
@@ -153,6 +153,15 @@ module _ (told : Told) (fits : AreWithinLimits told.terms.sizes) (shape_fits : I
         differ = λ o p x y i flies. absurd cc;
         spares_free = λ object l c named. absurd (let e : false ≡ true = named.active in cc);
         spares_built = λ object l c named. absurd (let e : false ≡ true = named.active in cc);
+      };
+      kept_part = record {
+        within = λ o n kept. absurd cc;
+        one_copy = λ o n k shared. absurd cc;
+        rows_apart = λ o p n k kept. absurd cc;
+        not_free = λ o n kept. absurd cc;
+        named_kept = λ o l c named. absurd (let e : false ≡ true = named.active in cc);
+        kept_named = λ o l within active. absurd cc;
+        drew_copy = λ o l i x flies. absurd cc;
       };
       hand_part = record { joined = only_mut (λ id u. All (IsJoined m.seat 0 [] (Mut v ∷ []) u.journal.seen) u.hands.joined) v (λ k d within. absurd (omega (arith, within))) };
       seating = record {

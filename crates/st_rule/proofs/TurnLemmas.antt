@@ -23,7 +23,7 @@ use Rattle.st_rule.specs.Board.{Board, Displays, plan_of}
 use Rattle.st_rule.specs.Board.{stays_loaded}
 use Rattle.st_rule.specs.Parts.{Sits, JournalPart, GatePart, BoardPart, LoadedPart, HasLoaded, ObjectPart, HandPart, IsJoined, Seating}
 use Rattle.atomic_table.specs.Table.{State}
-use Rattle.st_rule.specs.Rule.{Told, Moment, HoldsAt, IsSoundTable, world_of, flights_of, LanesAt, CopiesAt}
+use Rattle.st_rule.specs.Rule.{Told, Moment, HoldsAt, IsSoundTable, world_of, flights_of, LanesAt, CopiesAt, KeptAt}
 use Rattle.st_rule.specs.declared.views.Flight.{Flight}
 use Rattle.st_rule.specs.Entries.{own_entries}
 use Rattle.st_rule.specs.Views.{seen_by, flag_of, is_closer}
@@ -88,6 +88,7 @@ leaves_board leaves = record {
 abbrev pub VersionsAt : Told → Moment → (ℕ → Option Flight) → Board → Type 0
 VersionsAt told m flight board =
     LanesAt told.terms.sizes (world_of told.terms m) board flight × CopiesAt told.terms.sizes (world_of told.terms m) board m.since flight
+    × KeptAt told.terms.sizes (world_of told.terms m) board m.copy_of flight
 
 -- what was joined is still a prefix of a longer list, and nobody has sat down where a joined seat was
 pub joined_still :
@@ -300,6 +301,7 @@ module _ (told : Told) (m : Moment) (words : List ℕ) (views : List View) (h : 
         object_part = objects;
         lane_part = versions.0;
         copy_part = versions.1;
+        kept_part = versions.2;
         read_part = record {
           reads = lanes_stay views id w (λ j u. IsReading told.terms (world_of told.terms m) (λ l. board' (LaneWord l)) (λ o l. board' (ForwardWord o l)) u)
               (λ j u there. reading_on told.terms (world_of told.terms m) (world_of told.terms m) (λ l. m.board (LaneWord l)) (λ l. board' (LaneWord l))

@@ -19,7 +19,7 @@ use Rattle.st_rule.specs.Board.{Board, Displays, plan_of}
 use Rattle.st_rule.specs.Holding.{holding, flight_of}
 use Rattle.st_rule.specs.Reading.{ReadPart}
 use Rattle.st_rule.specs.Rows.{RowPart}
-use Rattle.st_rule.specs.Versions.{LanePart, CopyPart}
+use Rattle.st_rule.specs.Versions.{LanePart, CopyPart, KeptPart}
 use Rattle.st_rule.specs.declared.views.Flight.{Flight}
 use Rattle.st_events.specs.declared.limits.Sizes.{Sizes}
 use Rattle.st_rule.specs.Parts.{JournalPart, GatePart, BoardPart, LoadedPart, ObjectPart, HandPart, Seating}
@@ -47,12 +47,14 @@ pub record Moment : Type 0 where
   pub split : ℕ
   -- the copy part of the clock when the pool was settled last
   pub since : ℕ
+  -- the copy of the row that keeps a version of an object for a check; it changes with the draw alone
+  pub copy_of : ℕ → ℕ → ℕ
 
 -- what is in flight at each object, by what each number holds, and which number holds the object
 abbrev pub flights_of : (ℕ → Option Held) → (ℕ → ℕ) → ℕ → Option Flight
 flights_of grip holder object = flight_of (holding grip (holder object))
 
--- the parts on lanes and on copies, by the words of a board
+-- the parts on lanes, on copies and on whose they are, by the words of a board
 abbrev pub LanesAt : Sizes → World → Board → (ℕ → Option Flight) → Type 0
 LanesAt sizes world board flight =
     LanePart sizes world (λ l. board (LaneWord l)) (board AvailableWord) flight (λ o f. board (FieldWord o f)) (λ o l. board (ForwardWord o l))
@@ -63,6 +65,11 @@ abbrev pub CopiesAt : Sizes → World → Board → ℕ → (ℕ → Option Flig
 CopiesAt sizes world board since flight =
     CopyPart sizes world (λ l. board (LaneWord l)) (board AvailableWord) (low_half (board ClockWord)) since flight (λ o l. board (ForwardWord o l))
     (λ i. board (FreeWord i))
+
+abbrev pub KeptAt : Sizes → World → Board → (ℕ → ℕ → ℕ) → (ℕ → Option Flight) → Type 0
+KeptAt sizes world board copy_of flight =
+    KeptPart sizes world (λ l. board (LaneWord l)) (board AvailableWord) (low_half (board ClockWord)) flight (λ o l. board (ForwardWord o l))
+    (λ i. board (FreeWord i)) copy_of
 
 -- the part on reads, by the words of a board
 abbrev pub ReadsAt : Terms → World → Board → List View → Type 0
@@ -87,6 +94,7 @@ pub record HoldsAt (told : Told) (m : Moment) (words : List ℕ) (views : List V
       (λ o f. m.board (FieldWord o f)) (λ o l. m.board (ForwardWord o l))
   pub lane_part : LanesAt told.terms.sizes (world_of told.terms m) m.board (flights_of m.grip m.holder)
   pub copy_part : CopiesAt told.terms.sizes (world_of told.terms m) m.board m.since (flights_of m.grip m.holder)
+  pub kept_part : KeptAt told.terms.sizes (world_of told.terms m) m.board m.copy_of (flights_of m.grip m.holder)
   pub read_part : ReadsAt told.terms (world_of told.terms m) m.board views
   pub row_part : RowPart m.journal (λ check k. m.board (RowWord check k))
   pub hand_part : HandPart m.seat m.split m.journal views

@@ -1,10 +1,12 @@
 -- The parts of the rule on old versions: what the forwarding words of active checks say, and which copies are whose.
-use Rattle.std.specs.Prelude.{◌≡◌, ◌≢◌, ℕ, zero, suc, ◌+◌, ◌<◌, ◌≤◌, ◌⊎◌, true, false, length, Option, Some, IsSome}
+use Rattle.std.specs.Prelude.{◌≡◌, ◌≢◌, ℕ, zero, suc, ◌+◌, ◌<◌, ◌≤◌, ◌⊎◌, ◌==◌, ◌&&◌, Bool, true, false, if◌then◌else◌, List, length, Option, Some}
+use Rattle.std.specs.Prelude.{IsSome}
+use Rattle.std.specs.List.{list_any}
 use Rattle.st_layout.specs.declared.limits.TheConstants.{MOST_FIELDS}
 use Rattle.st_layout.specs.Packed.{high_half, low_half}
 use Rattle.st_events.specs.declared.limits.Sizes.{Sizes}
 use Rattle.st_events.specs.Heap.{Heap}
-use Rattle.st_events.specs.World.{World, Launched, is_among, is_lost}
+use Rattle.st_events.specs.World.{World, Launched, Row, is_among, is_kept, is_lost, needing_in}
 use Rattle.st_rule.specs.declared.forwards.TheConstants.{LOST}
 use Rattle.st_rule.specs.declared.views.Flight.{Flight}
 use Rattle.st_rule.specs.Holding.{word_or_zero}
@@ -94,3 +96,34 @@ pub record CopyPart (sizes : Sizes) (world : World) (lane : ℕ → ℕ) (availa
   pub spares_built :
       (object l c : ℕ) → IsNamed sizes world lane forward object l c
       → (p : ℕ) (x : Flight) (i : ℕ) → flight p ≡ Some x → x.index ≡ Some i → i < available → x.built ≤ MOST_FIELDS → free i ≢ c
+
+-- whether one row keeps the object's version for both checks
+abbrev pub share_row : List Row → (object check other : ℕ) → Bool
+share_row rows object check other = list_any (λ row. (row.obj == object) && (is_among row.checks check && is_among row.checks other)) rows
+
+-- the copies of the rows once a change of the object drew this copy: it is that of the checks that need the old version, and the others' are as before
+abbrev pub with_row : World → (object copy : ℕ) → (ℕ → ℕ → ℕ) → ℕ → ℕ → ℕ
+with_row world object copy copy_of = λ o n. if (o == object) && is_among (needing_in world object) n then copy else copy_of o n
+
+-- the rest of the part on copies: which copy is whose. `copy_of` gives the copy of the row that keeps a version of an object for a check
+pub record KeptPart (sizes : Sizes) (world : World) (lane : ℕ → ℕ) (available drawn : ℕ) (flight : ℕ → Option Flight) (forward : ℕ → ℕ → ℕ) (free : ℕ → ℕ)
+    (copy_of : ℕ → ℕ → ℕ) : Type 0 where
+  -- each row kept has one copy, by whichever of its checks
+  pub within : (o n : ℕ) → is_kept world.kept o n ≡ true → copy_of o n < sizes.copies
+  pub one_copy : (o n k : ℕ) → share_row world.kept o n k ≡ true → copy_of o n ≡ copy_of o k
+  -- no two rows have the same one
+  pub rows_apart :
+      (o p n k : ℕ) → is_kept world.kept o n ≡ true → is_kept world.kept p k ≡ true → copy_of o n ≡ copy_of p k
+      → (o ≡ p) × (share_row world.kept o n k ≡ true)
+  -- and none of these is free
+  pub not_free : (o n : ℕ) → is_kept world.kept o n ≡ true → (i : ℕ) → drawn ≤ i → i < available → free i ≢ copy_of o n
+  -- where the forwarding word of an active check at an object names a copy, it is that of the object's row with the check
+  pub named_kept : (o l c : ℕ) → IsNamed sizes world lane forward o l c → (is_kept world.kept o (lane l) ≡ true) × (c ≡ copy_of o (lane l))
+  -- where there is such a row, this word names its copy, but for a change in flight that has not written it yet
+  pub kept_named :
+      (o l : ℕ) → l < sizes.lanes → is_among world.active (lane l) ≡ true → is_kept world.kept o (lane l) ≡ true
+      → IsAwaiting (flight o) l ⊎ IsNamed sizes world lane forward o l (copy_of o (lane l))
+  -- which drew this copy
+  pub drew_copy :
+      (o l i : ℕ) (x : Flight) → flight o ≡ Some x → is_among x.awaiting l ≡ true → x.index ≡ Some i → i < available
+      → (is_kept world.kept o (lane l) ≡ true) × (free i ≡ copy_of o (lane l))

@@ -26,7 +26,8 @@ load-requires g c =
     let second = subst (λ (x : LaneView). IsSecondHalf x c.args.copy c.args.field) (sym same) c.requires.second in (
       ap (λ s. s.table) c.seat.view_is ∙ c.requires.table.table,
       c.copy_place-word.ensures.within,
-      check_copy_keeps told slots c.seat.inside.seat.id me u is c.copy_place-word.result c.args.copy c.args.field (c.copy_place-word.ensures.place ∙ ap (λ k. word_of (plan_of told.terms.sizes) (CopyWord c.args.copy k)) c.requires.word) c.requires.field second,
+      check_copy_keeps told slots c.seat.inside.seat.id me u is c.copy_place-word.result c.args.copy c.args.field
+          (c.copy_place-word.ensures.place ∙ ap (λ k. word_of (plan_of told.terms.sizes) (CopyWord c.args.copy k)) c.requires.word) c.requires.field second,
     )
 
 pub invariant_of-seat : goal.invariant_of-seat
