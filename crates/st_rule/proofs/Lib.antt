@@ -36,3 +36,5 @@ pub mod BarrierSteps
 pub mod LaneSteps
 pub mod LaneSeatLemmas
 pub mod NamedLemmas
+pub mod SettleLemmas
+mod SettleExamples

@@ -9,6 +9,7 @@ pub mod Draws
 pub mod Parts
 pub mod Reading
 pub mod Rows
+pub mod Settling
 pub mod Rule
 pub mod Ends
 pub mod Keys
