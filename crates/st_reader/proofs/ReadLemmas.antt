@@ -1,5 +1,6 @@
 -- From what the three steps tell to what the read says.
-use Rattle.std.proofs.Common.{◌≡◌, ◌≢◌, ℕ, ◌+◌, ◌-◌, ◌<◌, ◌≤◌, ◌==◌, ◌&&◌, not, Bool, true, false, Option, Some, None, sym, refl, ap, subst, ◌∙◌, arith, eq-eqb, ne_eqb}
+use Rattle.std.proofs.Common.{◌≡◌, ◌≢◌, ℕ, ◌+◌, ◌-◌, ◌<◌, ◌≤◌, ◌==◌, ◌&&◌, not, Bool, true, false, Option, Some, None}
+use Rattle.std.proofs.Common.{sym, refl, ap, subst, ◌∙◌, arith, eq-eqb, ne_eqb}
 use Rattle.std.specs.Prelude.{IsSome}
 use mathlib.Core.List.{IsPrefix}
 use Rattle.std.proofs.lemmas.Option.{slice_get_within}
@@ -13,10 +14,10 @@ use Rattle.st_rule.specs.declared.views.HalfRead.{HalfRead}
 use Rattle.st_rule.specs.declared.views.LaneView.{LaneView}
 use Rattle.st_rule.specs.Holding.{word_or_zero}
 use Rattle.st_rule.specs.LaneSeats.{LaneValue, IsFairLane, IsSameLane, FindsField, FindsForward, FindsCopy}
-use Rattle.st_rule.specs.Reading.{past_of, names_copy, with_target, forward_read, copy_read, IsFirstHalf, IsSecondHalf, TellsOfVersion}
+use Rattle.st_rule.specs.Reading.{past_of, names_copy, with_target, forward_read, copy_read, IsSecondHalf, TellsOfVersion}
 use Rattle.st_rule.proofs.DrawEvents.{cell_word}
 use Rattle.st_rule.proofs.LaneSteps.{object_of_cell}
-use Rattle.st_reader.specs.Reads.{IsLostTo, LeavesLane, CountsSteps}
+use Rattle.st_reader.specs.Reads.{IsLostTo, LeavesLane, CountsSteps, HasLive, LoadsLive, LoadsForward, LoadsBoth}
 
 one_word : (a b : ℕ) → Some a ≡ Some b → a ≡ b
 one_word a b e = cc
@@ -42,10 +43,18 @@ field_few u obj f fair cell = within (past_of u obj) refl cell
 pub object_stood : (u : LaneView) (obj field : ℕ) → IsSome (word_at (past_of u) obj field) → IsSome (past_of u obj)
 object_stood u obj field cell = object_of_cell (past_of u obj) field cell
 
-module _ (before one : LaneValue) (obj field value : ℕ) (cell : IsSome (word_at (past_of before.view) obj field)) (same : IsSameLane before one)
-    (finds : FindsField obj field before.view one.view) (found : one.view.tally.found ≡ Some value) where
+-- the first half and then the second are both
+pub loads_both :
+    (a b c : LaneValue) (obj field value word : ℕ) → LoadsLive obj field value a b → LoadsForward word b c
+    → LoadsBoth obj field value word a c
+loads_both a b c obj field value word live forward = record { between = b; live = live; forward = forward }
+
+module _ (before one : LaneValue) (obj field value : ℕ) (cell : IsSome (word_at (past_of before.view) obj field)) (first : LoadsLive obj field value before one) where
+  abbrev finds : FindsField obj field before.view one.view
+  finds = first.finds
+
   value_is : finds.word ≡ value
-  value_is = one_word finds.word value (sym (ap (λ (x : LaneView). x.tally.found) finds.view) ∙ found)
+  value_is = one_word finds.word value (sym (ap (λ (x : LaneView). x.tally.found) finds.view) ∙ first.found)
 
   abbrev half : HalfRead
   half = record { object = obj; field = field; value = value; forward = None }
@@ -59,15 +68,19 @@ module _ (before one : LaneValue) (obj field value : ℕ) (cell : IsSome (word_a
   pub check_is : one.view.check ≡ before.view.check
   check_is = ap (λ (x : LaneView). x.check) finds.view
 
-  pub first_half : IsFirstHalf one.view obj
-  first_half = record { half = half; read = read_is; unforwarded = refl; object_is = refl }
+  -- the first half is done, of a cell of the past
+  pub has_live : HasLive obj field one
+  has_live = record {
+    half = record { half = half; read = read_is; unforwarded = refl; object_is = refl };
+    cell = subst (λ (h : Heap). IsSome (word_at h obj field)) (sym past_is) cell;
+  }
 
-  pub still_stood : IsSome (past_of one.view obj)
-  still_stood = subst (λ (h : Heap). IsSome (h obj)) (sym past_is) (object_stood before.view obj field cell)
+  module _ (two : LaneValue) (word : ℕ) (second : LoadsForward word one two) where
+    abbrev tells : FindsForward one.view two.view
+    tells = second.finds
 
-  module _ (two : LaneValue) (word : ℕ) (same' : IsSameLane one two) (fair : IsFairLane two.view) (tells : FindsForward one.view two.view) (found' : two.view.tally.found ≡ Some word) where
     word_is : tells.word ≡ word
-    word_is = one_word tells.word word (sym (ap (λ (x : LaneView). x.tally.found) tells.view) ∙ found')
+    word_is = one_word tells.word word (sym (ap (λ (x : LaneView). x.tally.found) tells.view) ∙ second.found)
 
     told : TellsOfVersion one.view half word tells.seen
     told = subst (λ k. TellsOfVersion one.view half k tells.seen) word_is (tells.tells half read_is)
@@ -116,15 +129,15 @@ module _ (before one : LaneValue) (obj field value : ℕ) (cell : IsSome (word_a
     -- what two steps leave
     pub leaves_two : two.view.read ≡ None → LeavesLane before two
     leaves_two quiet = record {
-      table = same'.table ∙ same.table;
-      id = same'.id ∙ same.id;
+      table = second.same.table ∙ first.same.table;
+      id = second.same.id ∙ first.same.id;
       terms = ap (λ (x : LaneView). x.terms) tells.view ∙ ap (λ (x : LaneView). x.terms) finds.view;
       lane = ap (λ (x : LaneView). x.lane) tells.view ∙ ap (λ (x : LaneView). x.lane) finds.view;
       check = ap (λ (x : LaneView). x.check) tells.view ∙ check_is;
       past = ap (λ (x : LaneView). x.past) tells.view ∙ ap (λ (x : LaneView). x.past) finds.view;
       goes_on = subst (λ (t : LaneView × LaneView). IsPrefix t.0.seen t.1.seen) (λ i. (finds.view i, sym tells.view i)) tells.goes_on;
-      legal = fair.legal;
-      fair = fair;
+      legal = second.fair.legal;
+      fair = second.fair;
       quiet = quiet;
     }
 
@@ -142,10 +155,10 @@ module _ (before one : LaneValue) (obj field value : ℕ) (cell : IsSome (word_a
     pub counts_two : (counted counted' : ℕ) → counted' ≡ counted + 2 → CountsSteps before.view two.view counted counted'
     counts_two counted counted' is = record { taken = 2; few = omega arith; seat = steps_two; count = is }
 
-    module _ (three : LaneValue) (answer : ℕ) (same'' : IsSameLane two three) (fair' : IsFairLane three.view) (copied : FindsCopy two.view three.view)
-        (found'' : three.view.tally.found ≡ Some answer) (epoch : high_half word ≡ before.view.check) (kept : low_half word ≢ LOST) where
+    module _ (three : LaneValue) (answer : ℕ) (same : IsSameLane two three) (fair : IsFairLane three.view) (copied : FindsCopy two.view three.view)
+        (found : three.view.tally.found ≡ Some answer) (epoch : high_half word ≡ before.view.check) (kept : low_half word ≢ LOST) where
       answer_is : copied.word ≡ answer
-      answer_is = one_word copied.word answer (sym (ap (λ (x : LaneView). x.tally.found) copied.view) ∙ found'')
+      answer_is = one_word copied.word answer (sym (ap (λ (x : LaneView). x.tally.found) copied.view) ∙ found)
 
       past_two : past_of two.view ≡ past_of before.view
       past_two = ap past_of tells.view ∙ past_is
@@ -153,22 +166,22 @@ module _ (before one : LaneValue) (obj field value : ℕ) (cell : IsSome (word_a
       pub copied_word : word_at (past_of before.view) obj field ≡ Some answer
       unfolding second_half
       copied_word =
-          let second = second_half epoch kept (low_half word - 1) refl in
-          let told' = copied.tells second.half second.read in
+          let names = second_half epoch kept (low_half word - 1) refl in
+          let told' = copied.tells names.half names.read in
           cell_word (past_of before.view) obj field answer cell (ap (λ (h : Heap). word_or_zero h obj field) (sym past_two) ∙ sym told' ∙ answer_is)
 
       pub leaves_three : LeavesLane before three
       leaves_three = record {
-        table = same''.table ∙ same'.table ∙ same.table;
-        id = same''.id ∙ same'.id ∙ same.id;
+        table = same.table ∙ second.same.table ∙ first.same.table;
+        id = same.id ∙ second.same.id ∙ first.same.id;
         terms = ap (λ (x : LaneView). x.terms) copied.view ∙ ap (λ (x : LaneView). x.terms) tells.view ∙ ap (λ (x : LaneView). x.terms) finds.view;
         lane = ap (λ (x : LaneView). x.lane) copied.view ∙ ap (λ (x : LaneView). x.lane) tells.view ∙ ap (λ (x : LaneView). x.lane) finds.view;
         check = ap (λ (x : LaneView). x.check) copied.view ∙ ap (λ (x : LaneView). x.check) tells.view ∙ check_is;
         past = ap (λ (x : LaneView). x.past) copied.view ∙ ap (λ (x : LaneView). x.past) tells.view ∙ ap (λ (x : LaneView). x.past) finds.view;
         goes_on = subst (λ (t : LaneView × LaneView). IsPrefix t.0.seen t.1.seen)
             (λ i. (finds.view i, (ap (λ (x : LaneView). copy_read copied.word x) (sym tells.view) ∙ sym copied.view) i)) tells.goes_on;
-        legal = fair'.legal;
-        fair = fair';
+        legal = fair.legal;
+        fair = fair;
         quiet = ap (λ (x : LaneView). x.read) copied.view;
       }
 
