@@ -116,6 +116,14 @@ lay_source (from_cas target expect value) next nodes =
     let expected = lay_term expect word.first word.nodes in
     lay_object target expected.first expected.nodes
 
+-- a condition in front of two pieces of code that are laid
+abbrev pub lay_branch : Term → Next → Next → List Node → Laid
+lay_branch test when_true when_false nodes = let branch = put (node.Branch when_true when_false) nodes in lay_term test branch.first branch.nodes
+
+-- a loop whose body is laid: its condition leaves a truth where its code ends
+abbrev pub lay_loop : Term → Next → Next → List Node → Laid
+lay_loop test body next nodes = let condition = lay_term test Last nodes in put (node.While condition.first body next) condition.nodes
+
 -- statements, each in front of those that follow it
 abbrev mutual
   pub lay_command : List CheckStatement → Command → Next → List Node → Laid
@@ -127,12 +135,10 @@ abbrev mutual
   lay_command checks (an_if test first other) next nodes =
       let second = lay_block checks other next nodes in
       let body = lay_block checks first next second.nodes in
-      let branch = put (node.Branch body.first second.first) body.nodes in
-      lay_term test branch.first branch.nodes
+      lay_branch test body.first second.first body.nodes
   lay_command checks (a_while test body) next nodes =
       let inner = lay_block checks body Last nodes in
-      let condition = lay_term test Last inner.nodes in
-      put (node.While condition.first inner.first next) condition.nodes
+      lay_loop test inner.first next inner.nodes
   lay_command checks (a_proc_call called args at) next nodes =
       let call = put (node.Call called (count_of args) at next) nodes in lay_terms args call.first call.nodes
   lay_command checks (a_launch site) next nodes =

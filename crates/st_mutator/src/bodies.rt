@@ -1,14 +1,14 @@
 //! The code of statements and bodies.
 ghost use Rattle.std.specs.Prelude.{◌≡◌, IfOk, [], map, slice_get};
-ghost use Rattle.st_program.specs.Views.{command_of, block_of, check_of, routine_of, target_of, source_of, program_of};
-ghost use Rattle.st_program.specs.Terms.{a_put, a_launch};
+ghost use Rattle.st_program.specs.Views.{args_of, command_of, block_of, check_of, routine_of, target_of, term_of, source_of, program_of};
+ghost use Rattle.st_program.specs.Terms.{a_set, a_put, a_proc_call, a_launch};
 ghost use Rattle.st_threads.specs.Statements.{names_of as names_of_check};
-ghost use Rattle.st_mutator.specs.Laying.{lay_names, lay_command, lay_block, lay_procs, lay_thread, lay_program};
+ghost use Rattle.st_mutator.specs.Laying.{lay_names, lay_branch, lay_loop, lay_command, lay_block, lay_procs, lay_thread, lay_program};
 
 use crate::laying::{count_args, field_of, object, place_of, put, source, term, terms};
 use crate::nodes::{Entry, Next, Node};
-use st_events::MOST_ARGS;
-use st_program::{Body, Check, Items, Resolved, Source, Stmt, Target};
+use st_events::{MOST_ARGS, Site};
+use st_program::{Body, Check, Expr, Items, Resolved, Source, Stmt, Target};
 use std::alloc::{AllocError, Global};
 
 /// The locals that a check statement takes, no more than there may be; none where there is no such statement.
@@ -41,6 +41,14 @@ fn locals(nodes: &mut Items<Node>, names: &[u8], next: Next) -> Result<Next, All
         )?;
     }
     Ok(first)
+}
+
+/// A local gets a value.
+fn set(nodes: &mut Items<Node>, local: u8, value: &Source, next: Next) -> Result<Next, AllocError>
+    ensures { IfOk result (λ first. lay_command [] (a_set local (source_of value.now)) next nodes.old ≡ record { nodes = nodes.new; first = first }) }
+{
+    let set = put(nodes, Node::Set { local, next })?;
+    source(nodes, value, set)
 }
 
 /// A store.
@@ -85,6 +93,55 @@ fn launch(
     locals(nodes, names, launch)
 }
 
+/// A condition, in front of two pieces of code: the code goes on by it.
+fn branch(
+    nodes: &mut Items<Node>,
+    test: &Expr,
+    when_true: Next,
+    when_false: Next,
+) -> Result<Next, AllocError>
+    ensures { IfOk result (λ first. lay_branch (term_of test.now) when_true when_false nodes.old ≡ record { nodes = nodes.new; first = first }) }
+{
+    let branch = put(
+        nodes,
+        Node::Branch {
+            when_true,
+            when_false,
+        },
+    )?;
+    term(nodes, test, branch)
+}
+
+/// A loop, whose body is laid.
+fn repeat(nodes: &mut Items<Node>, test: &Expr, body: Next, next: Next) -> Result<Next, AllocError>
+    ensures { IfOk result (λ first. lay_loop (term_of test.now) body next nodes.old ≡ record { nodes = nodes.new; first = first }) }
+{
+    let test = term(nodes, test, Next::Last)?;
+    put(nodes, Node::While { test, body, next })
+}
+
+/// A call of a procedure.
+fn call(
+    nodes: &mut Items<Node>,
+    procedure: u8,
+    args: &[Expr],
+    at: Site,
+    next: Next,
+) -> Result<Next, AllocError>
+    ensures { IfOk result (λ first. lay_command [] (a_proc_call procedure (args_of args.now) at) next nodes.old ≡ record { nodes = nodes.new; first = first }) }
+{
+    let call = put(
+        nodes,
+        Node::Call {
+            procedure,
+            count: count_args(args),
+            at,
+            next,
+        },
+    )?;
+    terms(nodes, args, call)
+}
+
 /// A statement, in front of what comes next.
 #[cycle(statements)]
 fn command(
@@ -99,60 +156,25 @@ fn command(
         Stmt::Set {
             local,
             source: value,
-        } => {
-            let set = put(
-                nodes,
-                Node::Set {
-                    local: *local,
-                    next,
-                },
-            )?;
-            source(nodes, value, set)
-        }
+        } => set(nodes, *local, value, next),
         Stmt::Put {
             target,
             source: value,
         } => store(nodes, target, value, next),
         Stmt::If { test, then, other } => {
             let second = block(nodes, other.as_slice(), checks, next)?;
-            let body = block(nodes, then.as_slice(), checks, next)?;
-            let branch = put(
-                nodes,
-                Node::Branch {
-                    when_true: body,
-                    when_false: second,
-                },
-            )?;
-            term(nodes, test, branch)
+            let first = block(nodes, then.as_slice(), checks, next)?;
+            branch(nodes, test, first, second)
         }
         Stmt::While { test, body } => {
             let inner = block(nodes, body.as_slice(), checks, Next::Last)?;
-            let condition = term(nodes, test, Next::Last)?;
-            put(
-                nodes,
-                Node::While {
-                    test: condition,
-                    body: inner,
-                    next,
-                },
-            )
+            repeat(nodes, test, inner, next)
         }
         Stmt::Call {
             procedure,
             args,
             at,
-        } => {
-            let call = put(
-                nodes,
-                Node::Call {
-                    procedure: *procedure,
-                    count: count_args(args.as_slice()),
-                    at: *at,
-                    next,
-                },
-            )?;
-            terms(nodes, args.as_slice(), call)
-        }
+        } => call(nodes, *procedure, args.as_slice(), *at, next),
         Stmt::Check { site } => launch(nodes, checks, *site, next),
     }
 }

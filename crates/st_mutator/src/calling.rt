@@ -2,7 +2,7 @@
 ghost use Rattle.std.specs.Prelude.{◌≡◌, ◌+◌, ◌<◌, ◌≤◌, ◌∷◌, length, take, reverse, Some, slice_get};
 ghost use Rattle.st_program.specs.declared.limits.TheConstants.{MOST_LOCALS};
 ghost use Rattle.st_threads.specs.Statements.{args_of};
-ghost use Rattle.st_mutator.specs.Standing.{IsStanding, IsStep, entered_in, work_of, rank, AreBelow, places_of, node_deed, deed_of, deed_when_told, IsWaiting, IsAnswer};
+ghost use Rattle.st_mutator.specs.Standing.{IsStanding, IsStep, entered_in, work_of, rank, AreBelow, places_of, node_deed, deed_of, deed_when_told, IsWaiting, IsAnswer, IsPaid};
 
 use crate::asking::Asked;
 use crate::locals::{Locals, filled};
@@ -35,6 +35,13 @@ impl Machine {
         self.ask(Asked::Launch { site, args }, next, false)
     }
 
+    /// Pays for a turn of a loop. Answers false, and changes nothing, where less is left than it costs.
+    fn pay_for_turn(&mut self) -> bool
+        ensures { IsPaid result self.new self.old TURN_COST }
+    {
+        self.pay(TURN_COST)
+    }
+
     /// A turn of the loop at this node begins: its condition is evaluated.
     pub(crate) fn begin_turn(
         &mut self,
@@ -48,7 +55,7 @@ impl Machine {
         requires here { slice_get self.old.nodes index ≡ Some (Node.While test body next) }
         ensures { IsStep result self.new self.old.nodes self.old.entries (work_of self.old) (node_deed self.old (Node.While test body next)) }
     {
-        if !self.pay(TURN_COST) {
+        if !self.pay_for_turn() {
             return Some(Asked::End(End::EventsSpent));
         }
         self.frames.push(Frame::Test {

@@ -1,9 +1,12 @@
 //! What each node does.
 ghost use Rattle.std.specs.Prelude.{◌≡◌, ◌<◌, ◌∷◌, suc};
 ghost use Rattle.st_meaning.specs.Numbers.{is_true as is_true_word};
+ghost use Rattle.st_threads.specs.Deeds.{Request};
 ghost use Rattle.st_threads.specs.Statements.{evaluating};
+ghost use Rattle.st_threads.specs.Threads.{asks_for};
 ghost use Rattle.st_mutator.specs.Outcomes.{outcome_of};
-ghost use Rattle.st_mutator.specs.Standing.{IsStanding, IsStep, means_of, rest_of, going_in, work_of, rank, node_deed};
+ghost use Rattle.st_mutator.specs.Running.{unless_null};
+ghost use Rattle.st_mutator.specs.Standing.{IsStanding, IsStep, means_of, rest_of, going_in, turn_of_asked, work_of, rank, node_deed};
 
 use crate::asking::Asked;
 use crate::faults::{end_of, negate, operate};
@@ -151,17 +154,29 @@ impl Machine {
         let value = self.take();
         let expect = self.take();
         let obj = self.take();
-        self.ask_of(
+        self.ask_for_exchange(obj, field, expect, value, at, next)
+    }
+
+    /// The exchange is asked for, of an object that is not null; whether the word was replaced is pushed.
+    fn ask_for_exchange(
+        &mut self,
+        obj: u64,
+        field: u8,
+        expect: u64,
+        value: u64,
+        at: Site,
+        next: Next,
+    ) -> Option<Asked>
+        requires standing { IsStanding self.old }
+        requires earlier { rank next < rank self.old.next }
+        ensures { (request : Request) → turn_of_asked (Asked.Cas obj field expect value) ≡ asks_for request → IsStep result self.new self.old.nodes self.old.entries (work_of self.old) (unless_null obj at request (means_of self.old) (λ done left. going_in self.old next (done ∷ self.old.operands.items) self.old.locals left (rest_of self.old))) }
+    {
+        let asked = Asked::Cas {
             obj,
-            at,
-            Asked::Cas {
-                obj,
-                field,
-                expect,
-                value,
-            },
-            next,
-            true,
-        )
+            field,
+            expect,
+            value,
+        };
+        self.ask_of(obj, at, asked, next, true)
     }
 }

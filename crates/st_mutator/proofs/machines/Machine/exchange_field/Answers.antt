@@ -20,7 +20,7 @@ returns c =
     c.take-obj.ensures.rest ∙ ap (λ (x : Machine). with_operands (below x.operands.items) x) two_less in
     let expect_is : expect ≡ top (below ops) = c.take-expect.ensures.word ∙ ap (λ (x : Machine). top x.operands.items) one_less in
     let obj_is : obj ≡ top (below (below ops)) = c.take-obj.ensures.word ∙ ap (λ (x : Machine). top x.operands.items) two_less in
-    field_event_step m c.take-obj.new.self (below (below (below ops))) true c.args.next c.ask_of.result c.ask_of.new.self c.args.at
+    field_event_step m c.take-obj.new.self (below (below (below ops))) true c.args.next c.ask_for_exchange.result c.ask_for_exchange.new.self c.args.at
     obj (top (below (below ops)))
     (cas obj c.args.field expect value) (cas (top (below (below ops))) c.args.field (top (below ops)) (top ops)) _
     three_less obj_is
@@ -28,4 +28,4 @@ returns c =
     ∙ ap (λ (e : ℕ). cas (top (below (below ops))) c.args.field e value) expect_is
     ∙ ap (λ (v : ℕ). cas (top (below (below ops))) c.args.field (top (below ops)) v) c.take-value.ensures.word)
     refl
-    (c.ask_of.ensures (cas obj c.args.field expect value) refl)
+    (c.ask_for_exchange.ensures (cas obj c.args.field expect value) refl)
