@@ -33,9 +33,9 @@ use Rattle.st_rule.specs.Board.{stays_loaded}
 use Rattle.st_rule.specs.Parts.{Sits, JournalPart, GatePart, BoardPart, LoadedPart, HasLoaded, ObjectPart, HandPart, IsJoined, Seating}
 use Rattle.st_rule.specs.Plays.{Seated, Draws}
 use Rattle.st_rule.specs.Rule.{Told, Moment, HoldsAt, IsSoundTable, world_of, flights_of, LanesAt, CopiesAt, KeptAt, ReadsAt}
-use Rattle.st_rule.specs.Needs.{needing_lanes, takes_copy, is_change, is_any}
+use Rattle.st_rule.specs.Needs.{needing_lanes, copies_of, takes_copy, is_change, is_any}
 use Rattle.st_rule.proofs.NeedLemmas.{some_of, needs}
-use Rattle.st_rule.proofs.DrawVersions.{VersionsAfter, after_event, versions_drawn, copies_of, copies_after}
+use Rattle.st_rule.proofs.DrawVersions.{VersionsAfter, after_event, versions_drawn, copies_after}
 use Rattle.st_rule.proofs.ReachLemmas.{sound}
 use Rattle.st_rule.specs.Views.{seen_by, is_closer}
 use Rattle.st_rule.proofs.DrawEvents.{suits_own, suits_other}

@@ -1,6 +1,6 @@
 -- What a draw makes of the parts on old versions. The ticket and the index are drawn at one step, so that which copy keeps a version, and which versions
 -- are lost, is by the order of the journal.
-use Rattle.std.proofs.Common.{◌≡◌, ℕ, suc, ◌+◌, ◌<◌, ◌≤◌, ◌⊎◌, Bool, true, false, if◌then◌else◌, List, []}
+use Rattle.std.proofs.Common.{◌≡◌, ℕ, suc, ◌+◌, ◌<◌, ◌≤◌, ◌⊎◌, Bool, true, false, List, []}
 use Rattle.std.proofs.Common.{◌∷◌, length, Option, Some, None, sym, refl, ap, subst, ◌∙◌, arith, ⊎_elim, inl, inr}
 use Rattle.std.specs.Prelude.{IsSome, nat_lt}
 use Rattle.st_layout.specs.Names.{ClockWord, AvailableWord, LaneWord, FieldWord, ForwardWord, CopyWord, FreeWord}
@@ -19,7 +19,7 @@ use Rattle.st_rule.specs.declared.views.View.TheVariants.{Mut}
 use Rattle.st_rule.specs.Board.{Board, written}
 use Rattle.st_rule.specs.Draws.{MayDraw, Suits, left_in_flight, fresh_change, fresh_new}
 use Rattle.st_rule.specs.Holding.{Holds, holding, flight_of, word_or_zero}
-use Rattle.st_rule.specs.Needs.{KnowsNeed, needing_lanes, is_change, is_any, takes_copy, index_for}
+use Rattle.st_rule.specs.Needs.{KnowsNeed, needing_lanes, is_change, is_any, takes_copy, copies_of, index_for}
 use Rattle.st_rule.specs.Parts.{Sits}
 use Rattle.st_rule.specs.Rule.{Told, Moment, HoldsAt, world_of, flights_of, LanesAt, CopiesAt, KeptAt}
 use Rattle.st_rule.specs.Versions.{IsOwed, LanePart, CopyPart, KeptPart, with_row}
@@ -32,10 +32,6 @@ use Rattle.st_rule.proofs.ObjectLemmas.{flights_taken}
 use Rattle.st_rule.proofs.PoolLemmas.{lost_stays, lost_now, kept_after, kept_grows, kept_same}
 use Rattle.st_rule.proofs.ReachLemmas.{sound, next_is, next_absent}
 use Rattle.st_rule.proofs.ViewLemmas.{at_here, at_else}
-
--- the copies that a draw takes
-abbrev pub copies_of : Bool → ℕ
-copies_of copy = if copy then 1 else 0
 
 -- the world once the event is drawn
 abbrev pub after_event : Told → Moment → Event → World

@@ -27,8 +27,6 @@ use Rattle.st_rule.specs.SeatValue.{IsFairView, KeepsSeat}
 use Rattle.st_rule.specs.Turns.{looked_last, board_loaded, locked, locked_at, unlocked, field_found, word_written, copy_stored, forwarded, with_field, with_written, with_built}
 use Rattle.st_rule.specs.Turns.{with_forward, object_of_header, field_of_word, lane_of_word}
 use Rattle.st_rule.specs.Views.{mutator_of}
-use mir.Val.{bool_byte}
-use Rattle.st_rule.proofs.DrawVersions.{copies_of}
 use Rattle.st_rule.specs.Needs.{HasFlight, needing_lanes}
 use Rattle.st_events.specs.Heap.{Heap}
 use Rattle.st_rule.proofs.DrawEvents.{suits_own}
@@ -126,11 +124,6 @@ pub forward_stores :
     → StoresForward place me word after → Becomes (λ _ u. forwarded lane u) me word after
 forward_stores lane place word me after v h is held is_place stores =
     subst (λ l. Becomes (λ _ u. forwarded l u) me word after) (lane_tells (plan_of v.terms.sizes) h.object lane place is_place) (stores.stores v h is held)
-
--- a copy is one
-pub byte_copies : (copy : Bool) → bool_byte copy ≡ copies_of copy
-byte_copies true = refl
-byte_copies false = refl
 
 -- ---- what the hand holds is within the table
 

@@ -64,6 +64,10 @@ is_any (n ∷ ns) = true
 abbrev pub takes_copy : Event → List ℕ → Bool
 takes_copy e lanes = if is_change e then is_any lanes else false
 
+-- the copies that a draw takes
+abbrev pub copies_of : Bool → ℕ
+copies_of copy = if copy then 1 else 0
+
 -- the drawn index, where one is drawn
 abbrev pub index_for : List ℕ → ℕ → Option ℕ
 index_for [] index = None

@@ -16,6 +16,7 @@ ghost use Rattle.st_events.specs.declared.events.Event.{Event};
 ghost use Rattle.st_rule.specs.declared.views.Phase.TheVariants.{Inside};
 ghost use Rattle.st_rule.specs.Draws.{MayLock, MayUnlock, HasInHand, AwaitsField, AwaitsClass, MayDraw, MayLoadBoard};
 ghost use Rattle.st_rule.specs.Entries.{news_of};
+ghost use Rattle.st_rule.specs.Needs.{copies_of};
 ghost use Rattle.st_rule.specs.Plays.{Finds, FindsAndLearns, FindsBoard, FindsLock, FindsAndDraws};
 ghost use Rattle.st_rule.specs.Seats.{IsSeatOf, IsSameSeat, IsFair, HoldsNothing};
 ghost use Rattle.st_rule.specs.Turns.{looked_last, unlocked, field_found, word_written};
@@ -155,7 +156,7 @@ impl<J: Judge> Shared<J> {
         ensures found { seat.new.view.tally.found ≡ Some result }
     {
         let word = self.clock_place();
-        let added = pack(1, u64::from(copy));
+        let added = ticket_and_index(copy);
         let found = self
             .table
             .shared
@@ -165,6 +166,13 @@ impl<J: Judge> Shared<J> {
         seat.room -= objects_made(&event);
         found
     }
+}
+
+/// What a draw adds to the clock: one ticket, and one index where it takes a copy.
+fn ticket_and_index(copy: bool) -> u64
+    ensures { result ≡ packed 1 (copies_of copy) }
+{
+    if copy { pack(1, 1) } else { pack(1, 0) }
 }
 
 /// Writes an event with its ticket at the end of a seat's list.

@@ -4,9 +4,8 @@ use Rattle.st_rule.specs.Views.{mutator_of}
 use Rattle.st_rule.specs.declared.views.MutView.{MutView}
 use Rattle.st_rule.specs.Draws.{MayDraw}
 use Rattle.st_rule.proofs.DrawSteps.{draw_keeps}
-use Rattle.st_rule.proofs.ObjectSeats.{byte_copies, draw_found, drawn_kept}
+use Rattle.st_rule.proofs.ObjectSeats.{draw_found, drawn_kept}
 use Rattle.atomic_table.specs.Table.{Allows}
-use Rattle.st_layout.specs.Packed.{packed}
 use Rattle.st_events.specs.declared.events.Event.{Event}
 use Rattle.st_rule.specs.Plays.{Draws}
 use Rattle.st_rule.specs.Rule.{IsSoundTable}
@@ -22,10 +21,10 @@ fetch_add-found-requires g c =
     let may = subst (λ (x : MutView). MayDraw x c.args.event c.args.copy) (sym same) c.requires.event in (
       ap (λ s. s.table) c.seat.view_is ∙ c.requires.table.table,
       c.clock_place-word.ensures.within,
-      subst (λ (e : Event). Allows (IsSoundTable told) slots c.seat.inside.seat.id me c.clock_place-word.result (λ n. (n + c.pack-added.result) % 2 ^ 64) (Draws e me)) (sym c.requires.picked)
+      subst (λ (e : Event). Allows (IsSoundTable told) slots c.seat.inside.seat.id me c.clock_place-word.result (λ n. (n + c.ticket_and_index-added.result) % 2 ^ 64) (Draws e me)) (sym c.requires.picked)
           (draw_keeps told slots c.seat.inside.seat.id me (mutator_of me.0) (ap (λ m. m.0) c.seat.invariant.mutator)
-          c.clock_place-word.result c.pack-added.result c.args.event c.args.copy c.clock_place-word.ensures.place
-          (c.pack-added.ensures.word ∙ ap (packed 1) (c.from.ensures ∙ byte_copies c.args.copy)) may),
+          c.clock_place-word.result c.ticket_and_index-added.result c.args.event c.args.copy c.clock_place-word.ensures.place
+          c.ticket_and_index-added.ensures may),
     )
 
 pub invariant_of-seat : goal.invariant_of-seat
