@@ -1,33 +1,38 @@
 //! A small journal and its text, and texts that differ from it in one place.
 
+mod changes;
+
 use crate::{JournalError, read, write};
 use st_events::{Args, Event, Plain, Sizes, Verdict};
 use std::test::Fail;
 
+/// It makes an object of class 1.
+const NEW: Event = Event::New {
+    m: 0,
+    obj: 2,
+    class: 1,
+};
+/// It launches check 1 with that object.
+const LAUNCH: Event = Event::Launch {
+    m: 0,
+    site: 0,
+    number: 1,
+    args: Args {
+        count: 1,
+        words: [2, 0, 0, 0],
+    },
+};
+/// It stores 1 into the object.
+const STORE: Event = Event::Store {
+    m: 0,
+    obj: 2,
+    field: 0,
+    value: 1,
+};
+/// The check's end, by the main thread.
+const RETIRE: Event = Event::Retire { m: 1, number: 1 };
 /// The events of a run in which an object is made, checked and changed.
-const EVENTS: [Event; 4] = [
-    Event::New {
-        m: 0,
-        obj: 2,
-        class: 1,
-    },
-    Event::Launch {
-        m: 0,
-        site: 0,
-        number: 1,
-        args: Args {
-            count: 1,
-            words: [2, 0, 0, 0],
-        },
-    },
-    Event::Store {
-        m: 0,
-        obj: 2,
-        field: 0,
-        value: 1,
-    },
-    Event::Retire { m: 1, number: 1 },
-];
+const EVENTS: [Event; 4] = [NEW, LAUNCH, STORE, RETIRE];
 /// Its one verdict.
 const VERDICTS: [Verdict; 1] = [Verdict::Plain(Plain::Holds)];
 /// Its text.

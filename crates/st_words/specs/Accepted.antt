@@ -1,11 +1,13 @@
 -- The words that the program accepts, and what they say.
-use Rattle.std.specs.Prelude.{◌≡◌, ℕ, ◌≤◌, ◌-◌, ◌^◌, Bool, true, false, List, Option, Some, None, Result, Ok, Err, is_some, if◌then◌else◌, codes, map, option_map, option_and_then, string_bytes, String, ⊤}
+use Rattle.std.specs.Prelude.{◌≡◌, ℕ, ◌≤◌, ◌-◌, ◌^◌, Bool, true, false, List, Option, Some, None, Result, Ok, Err, if◌then◌else◌, String, ⊤}
+use Rattle.std.specs.Prelude.{is_some, codes, map, option_map, option_and_then, string_bytes}
 use Rattle.std.specs.Global.{Global}
 use Rattle.std.specs.Option.{option_map_or}
 use Rattle.std.specs.Str.{bytes_eq}
 use Rattle.clap.specs.Words.{Row, Text, first_of, subcommand_of, fault_of}
 use Rattle.clap.specs.Walk.{is_empty}
-use Rattle.st_events.specs.declared.limits.TheConstants.{MOST_LANES, MOST_OBJECTS, MOST_COPIES, MOST_EVENTS, MOST_CALLS, USUAL_LANES, USUAL_OBJECTS, USUAL_COPIES, USUAL_EVENTS, USUAL_CALLS}
+use Rattle.st_events.specs.declared.limits.TheConstants.{MOST_LANES, MOST_OBJECTS, MOST_COPIES, MOST_EVENTS, MOST_CALLS}
+use Rattle.st_events.specs.declared.limits.TheConstants.{USUAL_LANES, USUAL_OBJECTS, USUAL_COPIES, USUAL_EVENTS, USUAL_CALLS}
 use Rattle.st_words.specs.declared.limits.TheConstants.{MOST_CHECKERS, MOST_TURNS, USUAL_CHECKERS}
 use Rattle.st_words.specs.declared.words.Form.{Form}
 use Rattle.st_words.specs.declared.words.Form.TheVariants as form
@@ -54,6 +56,7 @@ form_by true false = Some form.Json
 form_by false true = Some form.Journal
 form_by false false = Some form.Text
 
+-- what is written, by the flags that were found
 unfoldable pub form_of : List Row → Option Form
 form_of rows = form_by (is_given (codes "json") rows) (is_given (codes "journal") rows)
 
@@ -75,13 +78,15 @@ run_with file numbers way = Run (record {
   form = way.form;
 })
 
--- what the words of each command say, by what was found for its names, options and flags
+-- the next three tell what the words of a command say, by what was found for its names, options and flags: a run of the file
 unfoldable pub run_of : List Row → Option Words
 run_of rows = given (first_of (codes "file") rows) (λ file. given (numbers_of rows) (λ numbers. given (way_of rows) (λ way. Some (run_with file numbers way))))
 
+-- a check of the file
 unfoldable pub check_of : List Row → Option Words
 check_of rows = given (first_of (codes "file") rows) (λ file. Some (Check file))
 
+-- an audit of the file by the journal
 unfoldable pub audit_of : List Row → Option Words
 audit_of rows = given (first_of (codes "file") rows) (λ file. given (first_of (codes "journal") rows) (λ journal. Some (Audit file journal)))
 

@@ -11,5 +11,7 @@ use Rattle.st_report.proofs.as_json.count_text.Goals as goal
 pub returns : goal.returns
 unfolding serde_json_on_literals
 returns c =
-    let built : view c.in_ok-value.value ≡ count_object (length c.args.verdicts.now) (count_by is_fails c.args.verdicts.now) (count_by is_holds c.args.verdicts.now) (count_by is_other_verdict c.args.verdicts.now) = search rules in
+    let built : view c.in_ok-value.value
+    ≡ count_object (length c.args.verdicts.now) (count_by is_fails c.args.verdicts.now) (count_by is_holds c.args.verdicts.now) (count_by is_other_verdict c.args.verdicts.now) =
+    search rules in
     c.in_ok-to_vec.ensures.text (ap has_float built) ∙ ap compact_text built ∙ count_text c.args.verdicts.now
