@@ -6,7 +6,7 @@
 //! One copy serves all lanes: they were launched after the same last change, so all of them saw the same version. Its index is drawn with
 //! the event's ticket, in one step, so two changes never build one copy. Where no copy is free at that index the version is lost for
 //! these checks for good, and each lane is told so.
-ghost use Rattle.std.specs.Prelude.{◌≡◌, ◌+◌, ◌<◌, ◌≤◌, ◌==◌, List, Some, None, MatchOption, if◌then◌else◌, slice_index};
+ghost use Rattle.std.specs.Prelude.{◌≡◌, ◌+◌, ◌<◌, ◌≤◌, ◌==◌, List, Some, None, MatchOption, if◌then◌else◌, nat_lt, slice_index};
 ghost use Rattle.st_layout.specs.Names.{AvailableWord, FreeWord};
 ghost use Rattle.st_layout.specs.declared.limits.TheConstants.{MOST_FIELDS};
 ghost use Rattle.st_rule.specs.declared.views.LoadedField.{LoadedField};
@@ -137,11 +137,18 @@ fn find_copy<J: Judge>(shared: &Shared<J>, seat: &mut MutSeat<J>, index: u32) ->
     ensures copy { MatchOption result (NamesNone index seat.new) (λ copy. NamesCopy index copy seat.new) }
 {
     let available = load_available(shared, seat);
-    if u64::from(index) < available {
+    if reaches_copy(index, available) {
         Some(load_free(shared, seat, index))
     } else {
         None
     }
+}
+
+/// Whether the index reaches a free copy: whether it is below the length of the free list.
+fn reaches_copy(index: u32, available: u64) -> bool
+    ensures { result ≡ nat_lt index available }
+{
+    u64::from(index) < available
 }
 
 /// The length of the free list.
