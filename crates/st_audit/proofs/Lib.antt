@@ -8,3 +8,4 @@ pub mod ListLemmas
 pub mod MarkLemmas
 pub mod OneLemmas
 pub mod RoomLemmas
+pub mod StrayLemmas

@@ -12,7 +12,7 @@ use Rattle.st_program.specs.Terms.{Program}
 use Rattle.st_threads.specs.Right.{IsRightVerdict}
 use Rattle.st_audit.specs.declared.findings.Finding.{Finding}
 use Rattle.st_audit.specs.declared.findings.Finding.TheVariants as found
-use Rattle.st_audit.specs.declared.audits.Stray.{Stray}
+use Rattle.st_audit.specs.declared.strays.Stray.{Stray}
 use Rattle.st_audit.specs.declared.verdicts.Wrong.{Wrong}
 use Rattle.st_audit.specs.Differences.{IsFirstDifference, IsTrace}
 
@@ -82,6 +82,16 @@ pub record IsWrongVerdict (shape : ShapeLists) (p : Program) (sizes : Sizes) (es
 abbrev pub AreReplayed : ShapeLists → Sizes → List Event → Option ℕ → Type 0
 AreReplayed shape sizes es None = IsLegal shape sizes es
 AreReplayed shape sizes es (Some place) = (why : Why) × IsFirstIllegal shape sizes es place why
+
+-- what is found of one thread: that its own events follow its code, or that it is a stray, with its first own event that differs
+abbrev pub IsComparedAlone : Program → Sizes → ℕ → List Event → Option Stray → Type 0
+IsComparedAlone p sizes thread es None = IsTrace p sizes es thread
+IsComparedAlone p sizes thread es (Some stray) = (stray.thread ≡ thread) × IsFirstDifference p sizes thread (own_events thread es) stray.event
+
+-- what is found of the first so many threads: that the own events of each follow its code, or the first stray
+abbrev pub AreComparedUpTo : Program → Sizes → List Event → ℕ → Option Stray → Type 0
+AreComparedUpTo p sizes es count None = (thread : ℕ) → thread < count → IsTrace p sizes es thread
+AreComparedUpTo p sizes es count (Some stray) = IsFirstStray p sizes es stray.thread stray.event
 
 -- what is found of all threads: that the own events of each follow its code, or the first stray
 abbrev pub AreCompared : Program → Sizes → List Event → Option Stray → Type 0

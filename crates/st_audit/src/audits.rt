@@ -1,18 +1,16 @@
 //! The audit of a journal: the first finding.
-ghost use Rattle.std.specs.Prelude.{◌≡◌, ◌<◌, ◌≤◌, ◌^◌, if◌then◌else◌, All, length, filter, Err, OnOk, IfOk};
+ghost use Rattle.std.specs.Prelude.{◌≡◌, ◌<◌, ◌^◌, length, Err, OnOk, IfOk};
 ghost use Rattle.st_events.specs.Terms.{AreWithinLimits, IsWithinLimits};
-ghost use Rattle.st_events.specs.History.{is_launch};
 ghost use Rattle.st_program.specs.Views.{program_of};
 ghost use Rattle.st_program.specs.WellFormed.{IsWellFormed};
-ghost use Rattle.st_mutator.specs.Mutators.{HasFewLocals};
 ghost use Rattle.st_audit.specs.declared.findings.Finding.{Finding};
 ghost use Rattle.st_audit.specs.declared.findings.Finding.TheVariants.{Memory};
-ghost use Rattle.st_audit.specs.Differences.{NamesSmall};
-ghost use Rattle.st_audit.specs.Findings.{IsRightJournal, IsFinding, AreCompared, AreReplayed};
+ghost use Rattle.st_audit.specs.Findings.{IsRightJournal, IsFinding, AreReplayed};
 
-use crate::differences::first_difference;
+use crate::counts::{count_launches, other_count};
 use crate::findings::Finding;
 use crate::losses::marks_of;
+use crate::strays::{Stray, first_stray};
 use crate::verdicts::{Wrong, first_wrong};
 use st_events::{Event, NoMemory, ReplayError, Shape, Sizes, Verdict, replay};
 use st_program::Resolved;
@@ -85,20 +83,17 @@ fn first_finding(
         None => {}
     }
     match first_stray(alloc, program, sizes, events)? {
-        Some(stray) => {
-            return Err(Finding::NotTrace {
-                thread: stray.thread,
-                event: stray.event,
+        Some(Stray { thread, event }) => return Err(Finding::NotTrace { thread, event }),
+        None => {}
+    }
+    match other_count(count_launches(events), verdicts.len() as u32) {
+        Some(other) => {
+            return Err(Finding::VerdictCount {
+                launches: other.launches,
+                verdicts: other.verdicts,
             });
         }
         None => {}
-    }
-    let launches = count_launches(events);
-    if verdicts.len() != launches as usize {
-        return Err(Finding::VerdictCount {
-            launches,
-            verdicts: verdicts.len() as u32,
-        });
     }
     let marks = marks_of(alloc, shape, sizes, events, verdicts)?;
     match first_wrong(alloc, shape, program, sizes, events, verdicts, &marks)? {
@@ -123,66 +118,5 @@ fn first_illegal(
         Ok(_) => Ok(None),
         Err(ReplayError::NotLegal { place, .. }) => Ok(Some(place)),
         Err(ReplayError::Memory) => Err(NoMemory),
-    }
-}
-
-/// A thread whose own events are not what its code does.
-#[derive(Clone, Copy, Debug)]
-struct Stray {
-    thread: u8,
-    /// The number of its first own event that differs, from 1.
-    event: u32,
-}
-
-/// The least thread whose own events are not what its code does.
-fn first_stray(
-    alloc: Global,
-    program: &Resolved,
-    sizes: &Sizes,
-    events: &[Event],
-) -> Result<Option<Stray>, NoMemory>
-    requires threads { sizes.now.mutators ≡ length (program_of program.now).threads }
-    requires few { HasFewLocals (program_of program.now) }
-    requires sizes { AreWithinLimits sizes.now }
-    requires events { length events.now < 2 ^ 32 }
-    requires small { All NamesSmall events.now }
-    ensures { IfOk result (AreCompared (program_of program.now) sizes.now events.now) }
-{
-    for thread in 0..sizes.mutators {
-        match first_difference(alloc, program, sizes, thread, events)? {
-            Some(event) => return Ok(Some(Stray { thread, event })),
-            None => {}
-        }
-    }
-    Ok(None)
-}
-
-/// How many checks are launched.
-fn count_launches(events: &[Event]) -> u32
-    requires { length events.now < 2 ^ 32 }
-    ensures { result ≡ length (filter is_launch events.now) }
-{
-    let mut count = 0;
-    for event in events {
-        count += one_if(is_launch(*event));
-    }
-    count
-}
-
-/// 1 where the test holds, else 0.
-fn one_if(test: bool) -> u32
-    ensures is { result ≡ (if test then 1 else 0) }
-    ensures few { result ≤ 1 }
-{
-    if test { 1 } else { 0 }
-}
-
-/// Whether the event launches a check.
-fn is_launch(event: Event) -> bool
-    ensures { result ≡ is_launch event }
-{
-    match event {
-        Event::Launch { .. } => true,
-        _ => false,
     }
 }

@@ -8,6 +8,7 @@
 #![tactic(auto)]
 
 mod audits;
+mod counts;
 mod differences;
 mod evaluations;
 mod findings;
@@ -16,6 +17,7 @@ mod laws;
 mod ledgers;
 mod losses;
 mod rows;
+mod strays;
 mod verdicts;
 
 pub use audits::{audit, audit_program};

@@ -1,7 +1,7 @@
 use Rattle.std.proofs.Common.{take, arith, length-take}
 use Rattle.st_events.specs.History.{is_launch}
 use Rattle.st_audit.proofs.ListLemmas.{filtered_are_few}
-use Rattle.st_audit.proofs.audits.count_launches.Goals as goal
+use Rattle.st_audit.proofs.counts.count_launches.Goals as goal
 
 pub overflow_add-count : goal.overflow_add-count
 overflow_add-count c =
