@@ -21,7 +21,8 @@ fetch_add-found-requires g c =
     let may = subst (λ (x : MutView). MayDraw x c.args.event c.args.copy) (sym same) c.requires.event in (
       ap (λ s. s.table) c.seat.view_is ∙ c.requires.table.table,
       c.clock_place-word.ensures.within,
-      subst (λ (e : Event). Allows (IsSoundTable told) slots c.seat.inside.seat.id me c.clock_place-word.result (λ n. (n + c.ticket_and_index-added.result) % 2 ^ 64) (Draws e me)) (sym c.requires.picked)
+      subst (λ (e : Event). Allows (IsSoundTable told) slots c.seat.inside.seat.id me c.clock_place-word.result
+          (λ n. (n + c.ticket_and_index-added.result) % 2 ^ 64) (Draws e me)) (sym c.requires.picked)
           (draw_keeps told slots c.seat.inside.seat.id me (mutator_of me.0) (ap (λ m. m.0) c.seat.invariant.mutator)
           c.clock_place-word.result c.ticket_and_index-added.result c.args.event c.args.copy c.clock_place-word.ensures.place
           c.ticket_and_index-added.ensures may),
