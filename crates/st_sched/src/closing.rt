@@ -23,7 +23,7 @@ impl Running {
         requires seats { length self.seats.items ≡ self.heap.sizes.mutators }
         ensures { (shape : ShapeLists) (p : Program) (sizes : Sizes) (start : State) (t : HasEnded shape p sizes start self) → result ≡ ran_of shape p sizes t.way.state }
     {
-        self.retire_finished(main, 0);
+        self.retire_all(main);
         let Running {
             heap,
             seats,

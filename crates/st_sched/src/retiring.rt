@@ -1,5 +1,5 @@
 //! Checks are launched, and retired.
-ghost use Rattle.std.specs.Prelude.{◌≡◌, ◌≤◌, ◌<◌, ◌+◌, [], ◌∷◌, ◌++◌, take, drop};
+ghost use Rattle.std.specs.Prelude.{◌≡◌, ◌≤◌, ◌<◌, ◌+◌, [], ◌∷◌, ◌++◌, take, drop, get_or, vec_len, vec_capacity};
 ghost use Rattle.st_program.specs.Terms.{Program};
 ghost use Rattle.st_program.specs.Views.{program_of};
 
@@ -16,7 +16,7 @@ impl Running {
     ghost use Rattle.st_sched.specs.UnderWay.{IsUnderWay, Stands, IsHistory, CanLaunch, CanLaunchAfter, IsFresh, KeepsTheRest, with_retires, with_launch};
 
     /// Thread `m` retires each check that has finished, in order of number, from the one at `index` on.
-    pub fn retire_finished(&mut self, m: u8, index: usize)
+    fn retire_finished(&mut self, m: u8, index: usize)
         requires run { (p : Program) × IsUnderWay p self.old }
         requires thread { m ≤ self.old.heap.sizes.mutators }
         ensures stands { (p : Program) (t : IsUnderWay p self.old) → Stands t.shape p t.sizes (with_retires m (finished_in (drop index self.old.checks.items)) t.state) self.new }
@@ -49,10 +49,21 @@ impl Running {
             lane,
             eval,
             awaits: _,
-        } = self.checks.remove(index);
+        } = take_out(&mut self.checks, index);
         self.verdicts[lane.number() as usize - 1] = verdict;
         self.heap.retire(m, lane);
         self.idle.push_reserved(eval);
+    }
+
+    /// Thread `m` retires each check that has finished, in order of number.
+    pub fn retire_all(&mut self, m: u8)
+        requires run { (p : Program) × IsUnderWay p self.old }
+        requires thread { m ≤ self.old.heap.sizes.mutators }
+        ensures stands { (p : Program) (t : IsUnderWay p self.old) → Stands t.shape p t.sizes (with_retires m (finished_in self.old.checks.items) t.state) self.new }
+        ensures history { (p : Program) (t : IsUnderWay p self.old) → IsHistory t.shape t.sizes (with_retires m (finished_in self.old.checks.items) t.state).journal }
+        ensures rest { KeepsTheRest self.old self.new }
+    {
+        self.retire_finished(m, 0);
     }
 
     /// Thread `m` retires each check that has finished, and launches the check of a site.
@@ -62,7 +73,7 @@ impl Running {
         ensures stands { (t : IsUnderWay (program_of program.now) self.old) → IsFresh t → Stands t.shape (program_of program.now) t.sizes (with_launch t.shape t.sizes m site args (with_retires m (finished_in self.old.checks.items) t.state)) self.new }
         ensures rest { KeepsTheRest self.old self.new }
     {
-        self.retire_finished(m, 0);
+        self.retire_all(m);
         self.begin_check(program, m, site, args);
     }
 
@@ -84,4 +95,14 @@ impl Running {
         self.checks
             .push_reserved(ActiveCheck::begin(lane, eval, program, site, args));
     }
+}
+
+/// Takes the check at `index` out; the others stay in order.
+fn take_out(checks: &mut Vec<ActiveCheck>, index: usize) -> ActiveCheck
+    requires { index < vec_len checks.old }
+    ensures taken { result ≡ get_or checks.old.items index result }
+    ensures others { checks.new.items ≡ take index checks.old.items ++ drop (index + 1) checks.old.items }
+    ensures capacity { vec_capacity checks.new ≡ vec_capacity checks.old }
+{
+    checks.remove(index)
 }

@@ -28,5 +28,12 @@ pub fn run_resolved(
 {
     let mut running = Running::open(alloc, shape, program, sizes, seed)?;
     'turns: while running.go_on(program) {}
-    Ok(running.close(sizes.mutators))
+    Ok(running.close(main_thread(sizes)))
+}
+
+/// The number of the main thread: it comes after those of the program's threads.
+fn main_thread(sizes: &Sizes) -> u8
+    ensures { result ≡ sizes.now.mutators }
+{
+    sizes.mutators
 }

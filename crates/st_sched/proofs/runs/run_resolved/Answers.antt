@@ -30,7 +30,7 @@ close-requires-clause-run c =
 pub close-requires-clause-main : goal.close-requires-clause-main
 close-requires-clause-main c =
     let ended = c.go_on.ensures.over c.args.shape.now c.args.sizes.now (first_state c.args.seed) c.turns.invariant.way c.turns-test.false in
-    sym (ap (λ (h : Snapshots). h.sizes.mutators) ended.way.stands.heap)
+    c.main_thread.ensures ∙ sym (ap (λ (h : Snapshots). h.sizes.mutators) ended.way.stands.heap)
 
 pub close-requires-clause-seats : goal.close-requires-clause-seats
 close-requires-clause-seats c =
