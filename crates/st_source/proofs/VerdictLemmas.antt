@@ -19,7 +19,7 @@ use Rattle.st_syntax.specs.Terminals.{Terminal, terminals_of}
 use Rattle.st_syntax.specs.TokenLimits.{first_over}
 use Rattle.st_reading.specs.Reading.{Outcome, program}
 use Rattle.st_reading.proofs.Exact.{one_tree}
-use Rattle.st_parse.specs.Outcomes.{IsProgramOf, error_of, counted_by, counted, read_by, read, then_counted, limited_by, answer, Answers}
+use Rattle.st_parse.specs.Outcomes.{IsProgramOf, error_of, counted_by, counted, read_by, read, then_counted, limited_by, answer, IsButForMemory}
 use Rattle.st_parse.proofs.OutcomeLemmas.{Meant, told}
 use Rattle.st_types.specs.Rules.{faults_of}
 use Rattle.st_source.specs.Accepted.{IsTreeOf, IsSourceOf, IsAccepted}
@@ -128,7 +128,7 @@ answer_is_told : (text : List ℕ) (ts : List Terminal) → IsMemory (answer tex
 unfolding answer
 answer_is_told text ts e = limited_is_told text ts (first_over ts) e
 
-answers_itself : (r : Result Program ParseError) → Answers r r
+answers_itself : (r : Result Program ParseError) → IsButForMemory r r
 answers_itself (Ok p) = refl
 answers_itself (Err parse.Memory) = tt
 answers_itself (Err (parse.Unexpected at)) = refl
