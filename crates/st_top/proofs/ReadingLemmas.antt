@@ -1,5 +1,5 @@
 -- What was read is what was told: from the text of a file, as it was read, to the cause of a refusal and to what was accepted.
-use Rattle.std.proofs.Common.{◌≡◌, ◌≢◌, ℕ, ◌⊎◌, ◌↔◌, ◌<◌, ◌+◌, List, length, Option, Some, None, Result, Ok, Err, IfOk, IfErr, IfSome, inl, inr, subst}
+use Rattle.std.proofs.Common.{◌≡◌, ◌≢◌, ℕ, ◌⊎◌, ◌↔◌, ◌<◌, ◌≤◌, ◌+◌, List, length, Option, Some, None, Result, Ok, Err, IfOk, IfErr, IfSome, inl, inr, subst}
 use Rattle.st_io.specs.Counts.{RoseBy}
 use Rattle.st_io.specs.States.{FilesState}
 use Rattle.st_io.specs.declared.errors.FilesFault.{FilesFault}
@@ -8,7 +8,9 @@ use Rattle.st_journal.specs.Format.{FileLists, IsFile, journal_text}
 use Rattle.st_journal.specs.declared.errors.JournalError.{JournalError}
 use Rattle.st_journal.specs.declared.errors.JournalError.TheVariants as journal
 use Rattle.st_top.specs.Causes.{IsSourceCause, IsJournalCause, IsTextCause, IsJournalTextCause, IsJournalText, IsLonger, IsNoSource}
+use Rattle.st_top.specs.Deeds.{IsJournalOf}
 use Rattle.st_top.specs.declared.errors.Refusal.{Refusal}
+use Rattle.st_top.specs.declared.limits.TheConstants.{MOST_JOURNAL_BYTES}
 use Rattle.st_top.specs.declared.errors.Refusal.TheVariants.{Words, NoMemory, ReadFault, SourceTooLong, Source, JournalTooLong, JournalLine, JournalVersion}
 
 -- the bytes that were read are those that were told
@@ -74,6 +76,14 @@ pub bad_version_is_no_journal : (text : List ℕ) (result : Result FileLists Jou
     → ((file : FileLists) → IsFile file → text ≡ journal_text file → (result ≡ Ok file) ⊎ (result ≡ Err journal.Memory))
     → IsJournalText text → ⊥
 bad_version_is_no_journal text result is again found = refused_is_no_journal text result journal.BadVersion is (λ e. cc) again found
+
+-- what a text was read to is the file of its journal
+pub read_text_is_its_journal : (text : List ℕ) (file : FileLists) → length text ≤ MOST_JOURNAL_BYTES → IsFile file × (text ≡ journal_text file) → IsJournalOf text file
+read_text_is_its_journal text file short read = record { short = short; text_of = read.1 }
+
+-- and that file keeps the limits of files
+pub read_file_is_one : (text : List ℕ) (file : FileLists) → IsFile file × (text ≡ journal_text file) → IsFile file
+read_file_is_one text file read = read.0
 
 -- ---- results
 

@@ -39,6 +39,7 @@ pub(crate) fn read_journal<F: Files>(
 }
 
 /// What the text of a journal tells.
+#[tactic(auto, using(crate::proofs::ReadingLemmas::read_text_is_its_journal, crate::proofs::ReadingLemmas::read_file_is_one))]
 fn parse_journal(alloc: Global, text: &[u8]) -> Result<JournalFile, Refusal>
     requires { length text.now ≤ MOST_JOURNAL_BYTES }
     ensures fits { IfOk result IsFile }

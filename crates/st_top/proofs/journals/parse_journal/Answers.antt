@@ -1,12 +1,6 @@
 use Rattle.st_top.proofs.ReadingLemmas.{bad_line_is_no_journal, bad_version_is_no_journal}
 use Rattle.st_top.proofs.journals.parse_journal.Goals as goal
 
-pub returns-in-Ok-clause-fits : goal.returns-in-Ok-clause-fits
-returns-in-Ok-clause-fits c = c.in-Ok.ensures.read.0
-
-pub returns-in-Ok-clause-read : goal.returns-in-Ok-clause-read
-returns-in-Ok-clause-read c = record { short = c.requires; text_of = c.in-Ok.ensures.read.1 }
-
 pub returns-in-Err-BadLine-clause-cause : goal.returns-in-Err-BadLine-clause-cause
 returns-in-Err-BadLine-clause-cause c = record {
   not_journal = bad_line_is_no_journal _ c.read.result c.in-Err-BadLine.line (cc) c.read.ensures.again;
