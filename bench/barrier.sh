@@ -841,12 +841,14 @@ fn main(rt: HostRuntime) -> Result<(), Failed> {
 }
 END_
 
-# The judge of the tests.
+# The judge of the tests, which stand in another place in older states.
+judges="$top/crates/st_table_rows/src/tests/judges.rt"
+[ -f "$judges" ] || judges="$top/crates/st_barrier/src/tests.rt"
 {
     printf '//! A judge to whom no verdict is right.\nghost use Rattle.std.specs.Prelude.{IfOk};\nghost use Rattle.st_barrier.specs.Counting.{HasNumbers};\n\n'
     printf 'use crate::acts::Failed;\nuse st_events::{Judge, Kind, Shape};\nuse std::alloc::{AllocError, Global};\nuse std::marker::Model;\n\n'
-    sed -n '/^\/\/\/ A judge to whom/,/^\/\/\/ A table of four mutators/p' "$top/crates/st_barrier/src/tests.rt" | sed -e '/^\/\/\/ A table of four/d' \
-        -e 's/^struct Silent/pub struct Silent/' -e 's/^fn judge_of/pub fn judge_of/' -e 's/Fail> *$/Failed>/' -e 's/Err(Fail::from("the shape fits"))/Err(Failed)/'
+    sed -n '/^\/\/\/ A judge to whom/,/^\/\/\/ A table of four mutators/p' "$judges" | sed -e '/^\/\/\/ A table of four/d' \
+        -e '/^\/\/\/ A judge of a program with no field/,$d' -e 's/^struct Silent/pub struct Silent/' -e 's/^fn judge_of/pub fn judge_of/' -e 's/Fail> *$/Failed>/' -e 's/Err(Fail::from("the shape fits"))/Err(Failed)/'
 } > "$program/src/judges.rt"
 
 cd "$program"

@@ -10,8 +10,6 @@ mod locking;
 mod making;
 mod needs;
 mod storing;
-#[cfg(test)]
-mod tests;
 mod versions;
 
 pub use comparing::cas;

@@ -20,8 +20,6 @@ mod plays;
 mod seats;
 mod steps;
 mod tables;
-#[cfg(test)]
-mod tests;
 mod views;
 
 pub use closing::Closed;

@@ -1,6 +1,6 @@
 use Rattle.std.proofs.Common.{◌+◌, ◌%◌, ◌^◌}
 use Rattle.st_barrier.proofs.CountingLemmas.{shared_cell, shared_fits, numbers_stay}
-use Rattle.st_barrier.proofs.tests.add_one.Goals as goal
+use Rattle.st_table_rows.proofs.tests.counting.add_one.Goals as goal
 
 pub load-found-requires-clause-cell : goal.load-found-requires-clause-cell
 load-found-requires-clause-cell g c = shared_cell c.args.inside.now.seat c.requires.may.fair c.requires.may.numbers

@@ -4,57 +4,12 @@ ghost use Rattle.st_events.specs.Sizes.{AreWithinLimits};
 ghost use Rattle.st_rule.specs.Rule.{first_view};
 ghost use Rattle.st_rule.specs.Seats.{IsSeatOf, sizes_of, terms_of};
 
-use crate::{MutSeat, Shared};
-use st_events::{Judge, Shape, Sizes};
+use super::judges::quiet_judge;
+use st_events::{Judge, Sizes};
+use st_rule::{MutSeat, Shared};
 use std::alloc::Global;
-use std::marker::Model;
 use std::process::Abort;
 use std::test::Fail;
-
-/// A judge to whom no verdict is right.
-#[derive(Drop)]
-struct Silent {
-    shape: Shape,
-}
-
-impl Model for Silent {
-    ghost use Rattle.st_events.specs.Shape.{ShapeLists, IsWithinLimits};
-
-    ghost Value = { ShapeLists };
-
-    ghost view = { λ judge. judge.shape };
-
-    ghost invariant = { λ judge. IsWithinLimits judge.shape };
-}
-
-impl Judge for Silent {
-    ghost meant = { λ shape. shape };
-
-    ghost right = { λ shape sizes es number verdict. ⊥ };
-
-    ghost laws = { λ shape limits. record {
-      launched = λ sizes es number verdict right. absurd right;
-      stays = λ sizes es fs number verdict legal right. absurd right;
-    } };
-
-    fn shape(&self) -> &Shape {
-        &self.shape
-    }
-}
-
-/// A judge of a program with no field and no check.
-fn quiet_judge(alloc: Global) -> Result<Silent, Fail> {
-    let mut classes = Vec::new(alloc);
-    classes.push(Vec::new(alloc))?;
-    let shape = Shape {
-        classes,
-        checks: Vec::new(alloc),
-    };
-    if !shape.fits() {
-        return Err(Fail::from("the shape fits"));
-    }
-    Ok(Silent { shape })
-}
 
 /// The sizes of the rows.
 fn small_sizes() -> Sizes

@@ -1,5 +1,5 @@
 use Rattle.st_barrier.specs.Counting.{HasWorked}
-use Rattle.st_barrier.proofs.tests.count_up.Given as goal
+use Rattle.st_table_rows.proofs.tests.counting.count_up.Given as goal
 
 -- between two tries the seat may count
 abbrev pub invariant-loop : goal.invariant-loop

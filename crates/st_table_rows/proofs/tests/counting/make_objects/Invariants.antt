@@ -1,5 +1,5 @@
 use Rattle.st_barrier.specs.Counting.{HasWorked}
-use Rattle.st_barrier.proofs.tests.make_objects.Given as goal
+use Rattle.st_table_rows.proofs.tests.counting.make_objects.Given as goal
 
 -- between two objects the seat may count
 abbrev pub invariant-loop-value : goal.invariant-loop-value

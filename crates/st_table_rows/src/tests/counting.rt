@@ -8,12 +8,12 @@ ghost use Rattle.st_rule.specs.Entries.{charge_spent};
 ghost use Rattle.st_rule.specs.Rule.{first_view};
 ghost use Rattle.st_rule.specs.Seats.{IsSeatOf, sizes_of, terms_of};
 
-use crate::{cas, load, new, store};
-use st_events::{Event, Judge, Kind, SHARED_OBJECT, Shape, Sizes, replay};
+use super::judges::judge_of_numbers;
+use st_barrier::{cas, load, new, store};
+use st_events::{Event, Judge, SHARED_OBJECT, Sizes, replay};
 use st_gate::{Inside, enter, leave};
 use st_rule::{Closed, Entry, MutSeat, SeatLog, Shared};
-use std::alloc::{AllocError, Global};
-use std::marker::Model;
+use std::alloc::Global;
 use std::sync::Wait;
 use std::test::Fail;
 use std::thread::{Threads, join};
@@ -24,58 +24,6 @@ const THREADS: u8 = 4;
 const TIMES: u32 = 10_000;
 /// How many objects each of them makes.
 const OBJECTS: u32 = 8;
-
-/// A judge to whom no verdict is right.
-#[derive(Drop)]
-struct Silent {
-    shape: Shape,
-}
-
-impl Model for Silent {
-    ghost use Rattle.st_events.specs.Shape.{ShapeLists, IsWithinLimits};
-
-    ghost Value = { ShapeLists };
-
-    ghost view = { λ judge. judge.shape };
-
-    ghost invariant = { λ judge. IsWithinLimits judge.shape };
-}
-
-impl Judge for Silent {
-    ghost meant = { λ shape. shape };
-
-    ghost right = { λ shape sizes es number verdict. ⊥ };
-
-    ghost laws = { λ shape limits. record {
-      launched = λ sizes es number verdict right. absurd right;
-      stays = λ sizes es fs number verdict legal right. absurd right;
-    } };
-
-    fn shape(&self) -> &Shape {
-        &self.shape
-    }
-}
-
-/// A class of one number, which the shared object has too.
-fn numbers(alloc: Global) -> Result<Shape, AllocError>
-    ensures { IfOk result HasNumbers }
-{
-    Ok(Shape {
-        classes: vec![in alloc; vec![in alloc; Kind::Int]?, vec![in alloc; Kind::Int]?]?,
-        checks: Vec::new(alloc),
-    })
-}
-
-/// A judge of a program with these classes and no check.
-fn judge_of_numbers(alloc: Global) -> Result<Silent, Fail>
-    ensures { IfOk result HasNumbers }
-{
-    let shape = numbers(alloc)?;
-    if !shape.fits() {
-        return Err(Fail::from("the shape fits"));
-    }
-    Ok(Silent { shape })
-}
 
 /// A table of four mutators. Another thread's success makes at most one try of a thread fail, so the charge is enough.
 fn sizes_of_four() -> Sizes

@@ -1,5 +1,5 @@
 use Rattle.st_barrier.proofs.CountingLemmas.{made_cell, made_fits, numbers_stay}
-use Rattle.st_barrier.proofs.tests.make_one.Goals as goal
+use Rattle.st_table_rows.proofs.tests.counting.make_one.Goals as goal
 
 pub store-requires-clause-cell : goal.store-requires-clause-cell
 store-requires-clause-cell g c =

@@ -1,0 +1,5 @@
+//! Rows of the table of the threads.
+
+mod counting;
+mod judges;
+mod seats;
