@@ -10,7 +10,7 @@
 copy st_events st_layout st_rule st_gate st_barrier
 if [ $# -gt 0 ]; then
     for crate in st_rule st_gate st_barrier; do
-        rm -rf "$scratch/crates/$crate"
+        rm -rf "$scratch/crates/$crate/src" "$scratch/crates/$crate/specs" "$scratch/crates/$crate/proofs"
         git -C "$top" archive "$1" "crates/$crate/src" "crates/$crate/specs" "crates/$crate/proofs" | tar -x -C "$scratch"
     done
 fi

@@ -1,16 +1,23 @@
-# Sourced by the scripts beside it. Makes a scratch repository, which is removed at the end: `top` is this repository and
-# `scratch` that one, and `copy CRATE..` copies the code, the definitions and the proofs of crates into it.
+# Sourced by the scripts beside it. Makes a scratch repository: `top` is this repository and `scratch` that one, and `copy CRATE..` copies the code, the
+# definitions and the proofs of crates into it. It is removed at the end, unless KEEP names the folder in which it is to stand: then it stays there with what was
+# proved, and the next run of the same script with that KEEP proves only what has changed.
 set -eu
 
 top=$(cd "$(dirname "$0")/.." && pwd)
-scratch=$(mktemp -d)
-trap 'rm -rf "$scratch"' EXIT
-mkdir "$scratch/crates"
+if [ -n "${KEEP:-}" ]; then
+    mkdir -p "$KEEP/crates"
+    scratch=$(cd "$KEEP" && pwd)
+else
+    scratch=$(mktemp -d)
+    trap 'rm -rf "$scratch"' EXIT
+    mkdir "$scratch/crates"
+fi
 
 copy() {
     for crate in "$@"; do
-        mkdir "$scratch/crates/$crate"
+        mkdir -p "$scratch/crates/$crate"
         for part in src specs proofs; do
+            rm -rf "${scratch:?}/crates/$crate/$part"
             if [ -d "$top/crates/$crate/$part" ]; then
                 cp -r "$top/crates/$crate/$part" "$scratch/crates/$crate/$part"
             fi
