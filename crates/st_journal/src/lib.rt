@@ -11,8 +11,6 @@ mod numbers;
 mod reading;
 mod rows;
 mod sizes;
-#[cfg(test)]
-mod tests;
 mod verdicts;
 mod versions;
 mod writing;

@@ -8,8 +8,6 @@ mod objects;
 mod reports;
 mod statuses;
 mod tallies;
-#[cfg(test)]
-mod tests;
 
 pub use as_json::report_json;
 pub use last_lines::last_line;

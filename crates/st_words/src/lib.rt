@@ -8,8 +8,6 @@ mod limits;
 mod numbers;
 mod options;
 mod reading;
-#[cfg(test)]
-mod tests;
 mod words;
 
 pub use errors::WordsError;

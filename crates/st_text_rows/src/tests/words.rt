@@ -1,11 +1,11 @@
 //! Words of every kind: each command, and each option at, below and above its range.
 
-use crate::{Form, Words, WordsError, read_words};
+use st_words::{Form, Words, WordsError, read_words};
 use std::alloc::Global;
 use std::test::Fail;
 
 /// Lines of words, which stand between blanks, and whether they are accepted.
-const LINES: [(&str, bool); 62] = [
+const LINES: [(&str, bool); 74] = [
     // the commands
     ("run two", true),
     ("check two", true),
@@ -63,10 +63,22 @@ const LINES: [(&str, bool); 62] = [
     ("run two --lanes ", false),
     ("run two --lanes --", false),
     ("run two --lanes", false),
+    ("run two --checkers=8", true),
+    ("run two --objects=4", true),
+    ("run two --schedule=18446744073709551615", true),
+    ("run two --copies=1048577", false),
     ("run two --json=true", false),
+    ("run two --journal=true", false),
     // what may not stand twice or together, and what is no option
     ("run two --lanes 1 --lanes 2", false),
+    ("run two --checkers 1 --checkers 2", false),
+    ("run two --objects 1 --objects 2", false),
+    ("run two --copies 1 --copies 2", false),
+    ("run two --events 1 --events 2", false),
+    ("run two --calls 1 --calls 2", false),
+    ("run two --schedule 1 --schedule 2", false),
     ("run two --json --json", false),
+    ("run two --journal --journal", false),
     ("run two --json --journal", false),
     ("run two --schedule 1 --checkers 1", false),
     ("run two --lane 1", false),

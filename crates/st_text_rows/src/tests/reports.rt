@@ -1,7 +1,7 @@
 //! The reports of small runs.
 
-use crate::{report, report_json, run_status};
 use st_events::{Args, End, Event, Plain, Ran, Site, Verdict};
+use st_report::{report, report_json, run_status};
 use std::alloc::{AllocError, Global};
 use std::test::Fail;
 

@@ -1,0 +1,5 @@
+//! Worked rows over words, journals and reports.
+
+mod journals;
+mod reports;
+mod words;
