@@ -1,8 +1,8 @@
 //! What is found of a run afterwards, by a replay and by an audit of its journal.
 ghost use Rattle.std.specs.Prelude.{◌<◌, ◌^◌, length, IfOk};
 
-use crate::amounts::Amounts;
-use crate::errors::Unrun;
+use super::amounts::Amounts;
+use super::errors::Unrun;
 use st_audit::{Finding, audit};
 use st_events::{End, Event, Verdict, replay};
 use st_sched::run_scheduled;
