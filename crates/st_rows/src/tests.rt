@@ -1,6 +1,8 @@
 //! Worked rows over source texts.
 
+mod audits;
 mod calls;
+mod changes;
 mod events;
 mod machines;
 mod runs;

@@ -6,7 +6,7 @@ mod errors;
 mod machines;
 mod runs;
 
-pub use accounts::{Account, account_for, word_after};
+pub use accounts::{Account, account_for, finding_of, word_after};
 pub use amounts::Amounts;
 pub use errors::Unrun;
 pub use machines::{Tell, first_other};
