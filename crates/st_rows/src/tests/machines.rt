@@ -1,12 +1,13 @@
 //! Rows of the threads' machines: what each tells after each word.
 
+use super::calls::{Tell, Unrun, first_other};
+use super::events::{NONE, at, one};
 use super::texts::{
     BLOCK_TWICE, BY_VALUE, CALLS_256, CALLS_257, CAS, CHECK, DEEP, ENDLESS, IN_CAS_TARGET,
     IN_CAS_VALUE, IN_OBJECT, IN_TARGET, IN_VALUE, LOADS, LONG_PLACE, OVERFLOW, REFERENCES,
     STORE_THEN_NULL, THREE, THREE_TURNS, TWO, TWO_CALLS,
 };
-use crate::{Tell, Unrun, first_other};
-use st_events::{Args, End, Site};
+use st_events::End;
 use st_mutator::Want;
 use std::alloc::Global;
 use std::test::Fail;
@@ -17,17 +18,10 @@ const FINISHED: Want = Want::End(End::Finished);
 
 const LAUNCH: Want = Want::Launch {
     site: 0,
-    args: Args {
-        count: 0,
-        words: [0; 4],
-    },
+    args: NONE,
 };
 
 const SPENT: Want = Want::End(End::EventsSpent);
-
-fn at(line: u32, column: u32) -> Site {
-    Site { line, column }
-}
 
 fn load(obj: u32, field: u8) -> Want {
     Want::Load { obj, field }
@@ -57,10 +51,7 @@ fn find_wrong(alloc: Global, row: Row<'_>) -> Result<Option<usize>, Unrun> {
 fn threads_tell_what_their_code_asks_for(rt: HostRuntime) -> Result<(), Fail> {
     let launch = Want::Launch {
         site: 0,
-        args: Args {
-            count: 1,
-            words: [2, 0, 0, 0],
-        },
+        args: one(2),
     };
     let full = Want::End(End::HeapFull(at(5, 16)));
     let deep = Want::End(End::ProcDeep(at(1, 12)));

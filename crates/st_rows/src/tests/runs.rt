@@ -1,64 +1,15 @@
 //! Rows of runs: what each leaves.
 
+use super::calls::{Amounts, Unrun, run_text, word_after};
+use super::events::{FAILS, HOLDS, NONE, at, launch, new, one, retire, store};
 use super::texts::{BUMP, DEEP, DOWN, ENDLESS, FAULTS, LIST, LOST, NULL, THREE, TWO};
-use crate::{Amounts, Unrun, run_text, word_after};
-use st_events::{Args, End, Event, Plain, Ran, Site, Verdict};
+use st_events::{End, Event, Plain, Ran, Verdict};
 use std::alloc::Global;
 use std::test::Fail;
 
 const USUAL: Amounts = Amounts::USUAL;
 
-const HOLDS: Verdict = Verdict::Plain(Plain::Holds);
-
-const FAILS: Verdict = Verdict::Plain(Plain::Fails);
-
 const SPENT: Verdict = Verdict::Plain(Plain::Spent);
-
-const NONE: Args = Args {
-    count: 0,
-    words: [0; 4],
-};
-
-fn at(line: u32, column: u32) -> Site {
-    Site { line, column }
-}
-
-fn new(obj: u32) -> Event {
-    Event::New {
-        m: 0,
-        obj,
-        class: 1,
-    }
-}
-
-fn store(obj: u32, field: u8, value: u64) -> Event {
-    Event::Store {
-        m: 0,
-        obj,
-        field,
-        value,
-    }
-}
-
-fn launch(number: u32, site: u16, args: Args) -> Event {
-    Event::Launch {
-        m: 0,
-        number,
-        site,
-        args,
-    }
-}
-
-fn retire(m: u8, number: u32) -> Event {
-    Event::Retire { m, number }
-}
-
-fn one(word: u64) -> Args {
-    Args {
-        count: 1,
-        words: [word, 0, 0, 0],
-    }
-}
 
 /// A text, what a run of it may use, how many seeds it is run by, the events that are no Retire in their order, the verdicts, the ends, and
 /// how many copies are free.

@@ -1,7 +1,7 @@
 //! Many schedules of one source, each audited.
 
+use super::calls::{Account, Amounts, account_for};
 use super::texts::FOUR;
-use crate::{Account, Amounts, account_for};
 use std::test::Fail;
 
 #[test]

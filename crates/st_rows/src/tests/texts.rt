@@ -99,6 +99,30 @@ thread b {
   shared.root = null;
 }";
 
+/// Two threads, each with one event.
+pub const APART: &[u8] = b"shared { n: int; }
+thread a { shared.n = 1; }
+thread b { shared.n = 2; }";
+
+/// A check that does not read the object that is changed.
+pub const BESIDE: &[u8] = b"class Box { v: int; }
+shared { a: int; }
+thread t {
+  var b: Box = new Box;
+  check shared.a == 0;
+  b.v = 1;
+}";
+
+/// A check that reads two objects, which are changed one after the other.
+pub const BOTH: &[u8] = b"class Box { v: int; }
+shared { a: int; }
+thread t {
+  var b: Box = new Box;
+  check shared.a == b.v;
+  shared.a = 1;
+  b.v = 1;
+}";
+
 /// A place whose object faults, and a value that would.
 pub const IN_OBJECT: &[u8] = b"class Node { val: int; next: Node; }
 thread t {

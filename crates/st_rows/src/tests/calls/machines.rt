@@ -1,7 +1,7 @@
 //! What the machine of a thread of a source text tells.
 ghost use Rattle.std.specs.Prelude.{};
 
-use crate::errors::Unrun;
+use super::errors::Unrun;
 use st_mutator::{Mutator, Want};
 use st_source::read_source;
 use std::alloc::Global;

@@ -1,12 +1,13 @@
 //! What is found of a run afterwards, by a replay and by an audit of its journal.
 ghost use Rattle.std.specs.Prelude.{◌<◌, ◌^◌, length, IfOk};
 
-use crate::amounts::Amounts;
-use crate::errors::Unrun;
+use super::amounts::Amounts;
+use super::errors::Unrun;
 use st_audit::{Finding, audit};
-use st_events::{End, Event, Verdict, replay};
+use st_events::{End, Event, Sizes, Verdict, replay};
 use st_sched::run_scheduled;
 use st_source::read_source;
+use st_types::Typed;
 use std::alloc::Global;
 
 /// What a run came to.
@@ -48,6 +49,20 @@ pub fn account_for(
         finished: count_finished(&ran.ends),
         free: ran.free,
     })
+}
+
+/// What an audit of the events and verdicts finds against the typed program, if anything.
+pub fn finding_of(
+    alloc: Global,
+    typed: &Typed,
+    sizes: &Sizes,
+    events: &[Event],
+    verdicts: &[Verdict],
+) -> Result<Option<Finding>, Unrun> {
+    if !sizes.fits() || events.len() > u32::MAX as usize || verdicts.len() > u32::MAX as usize {
+        return Err(Unrun::TooLarge);
+    }
+    Ok(audit(alloc, typed, sizes, events, verdicts).err())
 }
 
 /// The word of a cell after a replay of the journal of a run of the text; None where the cell does not exist.

@@ -1,8 +1,8 @@
 //! Runs of source texts.
 ghost use Rattle.std.specs.Prelude.{};
 
-use crate::amounts::Amounts;
-use crate::errors::Unrun;
+use super::amounts::Amounts;
+use super::errors::Unrun;
 use st_events::Ran;
 use st_sched::run_scheduled;
 use st_source::read_source;

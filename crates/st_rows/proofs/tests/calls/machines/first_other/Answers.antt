@@ -3,7 +3,7 @@ use Rattle.st_program.specs.declared.programs.Resolved.{Resolved}
 use Rattle.st_program.specs.Views.{program_of}
 use Rattle.st_mutator.specs.Mutators.{HasFewLocals}
 use Rattle.st_mutator.proofs.FewLemmas.{well_formed_has_few_locals}
-use Rattle.st_rows.proofs.machines.first_other.Goals as goal
+use Rattle.st_rows.proofs.tests.calls.machines.first_other.Goals as goal
 
 pub make-requires : goal.make-requires
 make-requires c =
