@@ -145,7 +145,7 @@ END_
 
 cat > "$program/src/passes.rt" <<'END_'
 //! Passes over each call: what it made in the last, and the nanoseconds of the best.
-ghost use Rattle.std.specs.Prelude.{◌<◌, ◌^◌, length};
+ghost use Rattle.std.specs.Prelude.{◌-◌, ◌<◌, ◌^◌, length};
 ghost use Rattle.std.specs.List.{All};
 ghost use Rattle.st_journal.specs.Format.{HasUsedArgs};
 
