@@ -7,17 +7,19 @@ top=$(cd "$(dirname "$0")/.." && pwd)
 if [ -n "${KEEP:-}" ]; then
     mkdir -p "$KEEP/crates"
     scratch=$(cd "$KEEP" && pwd)
+    # What the last run wrote is written anew; what it proved stands in out/.
+    rm -rf "$scratch"/crates/*/src "$scratch"/crates/*/specs "$scratch"/crates/*/proofs
 else
     scratch=$(mktemp -d)
     trap 'rm -rf "$scratch"' EXIT
     mkdir "$scratch/crates"
 fi
+: > "$scratch/crates.txt"
 
 copy() {
     for crate in "$@"; do
         mkdir -p "$scratch/crates/$crate"
         for part in src specs proofs; do
-            rm -rf "${scratch:?}/crates/$crate/$part"
             if [ -d "$top/crates/$crate/$part" ]; then
                 cp -r "$top/crates/$crate/$part" "$scratch/crates/$crate/$part"
             fi
