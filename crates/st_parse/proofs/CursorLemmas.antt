@@ -1,17 +1,24 @@
--- The next of the terminals that are left.
-use Rattle.std.proofs.Common.{◌≡◌, ℕ, zero, suc, ◌+◌, List, [], ◌∷◌, drop, Option, Some, None, Ok, slice_get, refl, ap, sym, ◌∙◌, arith, rules}
-use Rattle.std.proofs.lemmas.List.{drop-drop}
-use Rattle.st_syntax.specs.Terminals.{Terminal}
+-- The terminals that are left, by the tokens.
+use Rattle.std.proofs.Common.{◌≡◌, ℕ, ◌+◌, ◌<◌, ◌≤◌, List, [], ◌∷◌, length, map, drop, get_or, Ok, ap, sym, ◌∙◌}
+use Rattle.std.proofs.lemmas.List.{drop_all, drop_more, drop-map}
+use Rattle.st_lex.specs.declared.kinds.Token.{Token}
+use Rattle.st_syntax.specs.Terminals.{Terminal, terminal_of, terminals_of}
 use Rattle.st_reading.specs.Reading.{take_any}
 
-drop_one : (k : ℕ) (xs : List Terminal) (y : Terminal) (ys : List Terminal) → drop k xs ≡ y ∷ ys → drop (k + 1) xs ≡ ys
-drop_one k xs y ys e = sym (drop-drop 1 k xs) ∙ ap (drop 1) e
+-- those from a token on begin with its terminal
+pub from_token : (text : List ℕ) (tokens : List Token) (k : ℕ) (token : Token) → k < length tokens → token ≡ get_or tokens k token
+    → drop k (terminals_of text tokens) ≡ terminal_of text token ∷ drop (k + 1) (terminals_of text tokens)
+from_token text tokens k token within here =
+    drop-map (terminal_of text) k tokens
+    ∙ ap (map (terminal_of text)) (drop_more tokens k token within)
+    ∙ ap (λ t. terminal_of text t ∷ map (terminal_of text) (drop (k + 1) tokens)) (sym here)
+    ∙ ap (λ ts. terminal_of text token ∷ ts) (sym (drop-map (terminal_of text) (k + 1) tokens))
 
-front_taken : (zs rest : List Terminal) (t : Terminal) → slice_get zs 0 ≡ Some t → ((y : Terminal) (ys : List Terminal) → zs ≡ y ∷ ys → rest ≡ ys) → take_any zs ≡ Ok (t, rest)
-unfolding take_any
-front_taken [] rest t e r = cc
-front_taken (z ∷ zs) rest t e r = let same : rest ≡ zs = r z zs refl in let front : z ≡ t = search (rules, e) in cc
+-- after the last token there is none
+pub past_tokens : (text : List ℕ) (tokens : List Token) (k : ℕ) → length tokens ≤ k → drop k (terminals_of text tokens) ≡ []
+past_tokens text tokens k past = drop-map (terminal_of text) k tokens ∙ ap (map (terminal_of text)) (drop_all k tokens past)
 
 -- the next terminal is taken where it is there
-pub next_taken : (xs : List Terminal) (k : ℕ) (t : Terminal) → slice_get (drop k xs) 0 ≡ Some t → take_any (drop k xs) ≡ Ok (t, drop (k + 1) xs)
-next_taken xs k t e = front_taken (drop k xs) (drop (k + 1) xs) t e (λ y ys is. drop_one k xs y ys is)
+pub next_taken : (ts us : List Terminal) (t : Terminal) → ts ≡ t ∷ us → take_any ts ≡ Ok (t, us)
+unfolding take_any
+next_taken ts us t here = ap take_any here

@@ -1,6 +1,6 @@
 //! Blocks and the statements that have blocks in them. `depth` says how deep blocks may still nest: each that stands
 //! inside another is read with one less, so the limit on braces bounds the recursion.
-ghost use Rattle.std.specs.Prelude.{◌≡◌, ◌<◌, ◌≤◌, length, OnOk};
+ghost use Rattle.std.specs.Prelude.{◌≡◌, ◌<◌, ◌≤◌, [], length, IfOk, OnOk};
 ghost use Rattle.st_reading.specs.Reading as spec;
 ghost use Rattle.st_parse.specs.Reads.{Reads};
 
@@ -10,7 +10,7 @@ use crate::statements::{check_stmt, named_stmt, shared_stmt, var_stmt};
 use crate::stops::Stop;
 use st_ast::{Expr, Items, MOST_OPEN_BRACES, Stmt};
 use st_syntax::Sort;
-use std::alloc::Global;
+use std::alloc::{AllocError, Global};
 
 /// `"(" expr ")"`.
 #[tactic(auto, unfolding(st_reading::specs::Reading::condition))]
@@ -103,13 +103,21 @@ fn in_block(sort: Sort) -> bool
     !matches!(sort, Sort::CloseBrace | Sort::Other)
 }
 
+/// No statement yet, with room for one where one follows: blocks with one statement are many.
+fn no_statements(alloc: Global, next: Sort) -> Result<Items<Stmt>, AllocError>
+    ensures { IfOk result (λ body. body ≡ []) }
+{
+    let room = usize::from(in_block(next));
+    Ok(Items::from_vec(Vec::with_capacity(alloc, room)?))
+}
+
 /// `{ stmt }`, up to the brace that closes the block.
 #[cycle(block)]
 fn statements(alloc: Global, cursor: &mut Cursor<'_, '_>, depth: usize) -> Result<Items<Stmt>, Stop>
     ensures reads { Reads (λ body. body) (spec.many spec.in_block (spec.statement (spec.blocks depth)) cursor.old) result cursor.new }
     ensures no_longer { OnOk result (length cursor.new ≤ length cursor.old) }
 {
-    let mut body = Items::new(alloc);
+    let mut body = no_statements(alloc, cursor.next_sort())?;
     while in_block(cursor.next_sort()) {
         body.push(statement(alloc, cursor, depth)?)?;
     }

@@ -1,56 +1,67 @@
 //! A cursor over the tokens of a text.
-ghost use Rattle.std.specs.Prelude.{◌≡◌, ◌<◌, ◌≤◌, length, slice_get, OnOk};
-ghost use Rattle.std.specs.Option.{option_copied};
+ghost use Rattle.std.specs.Prelude.{◌≡◌, ◌<◌, ◌≤◌, All, drop, length, slice_get, OnOk};
+ghost use Rattle.st_lex.specs.Tokens.{IsToken};
 ghost use Rattle.st_reading.specs.Reading as spec;
 ghost use Rattle.st_parse.specs.Reads.{Reads};
-ghost use Rattle.st_syntax.specs.Terminals.{next_sort};
+ghost use Rattle.st_syntax.specs.Terminals.{next_sort, terminals_of};
 
 use crate::stops::Stop;
-use st_syntax::{Lexeme, Sort, same_sort};
+use st_lex::Token;
+use st_syntax::{Lexeme, Sort, same_sort, sort_in};
 use std::marker::Model;
 
 /// A place among the tokens of a text. Contracts see the list of the tokens that are left.
 #[derive(Debug, Drop)]
 pub struct Cursor<'t, 'a> {
-    lexemes: &'t [Lexeme<'a>],
+    text: &'a [u8],
+    tokens: &'t [Token],
     /// How many of them are taken.
     taken: usize,
+    /// The sort of the next one; at the end, that of a token that no rule uses. Each token is looked up once.
+    sort: Sort,
 }
 
 impl<'t, 'a> Model for Cursor<'t, 'a> {
-    ghost use Rattle.std.specs.Prelude.{List, drop, length, ◌≤◌};
-    ghost use Rattle.st_syntax.specs.Terminals.{Terminal};
+    ghost use Rattle.std.specs.Prelude.{List, drop};
+    ghost use Rattle.st_syntax.specs.Terminals.{Terminal, terminals_of};
+    ghost use Rattle.st_parse.specs.Places.{IsPlace};
 
     ghost Value = { List Terminal };
 
-    ghost view = { λ cursor. drop cursor.taken cursor.lexemes.now };
+    ghost view = { λ cursor. drop cursor.taken (terminals_of cursor.text.now cursor.tokens.now) };
 
-    ghost invariant = { λ cursor. cursor.taken ≤ length cursor.lexemes.now };
+    ghost invariant = { λ cursor. IsPlace cursor.text.now cursor.tokens.now cursor.taken cursor.sort };
 }
 
 impl<'t, 'a> Cursor<'t, 'a> {
-    /// Before the first of these tokens.
-    pub fn make(lexemes: &'t [Lexeme<'a>]) -> Cursor<'t, 'a>
-        ensures { result ≡ lexemes.now }
+    /// Before the first of these tokens of the text.
+    pub fn make(text: &'a [u8], tokens: &'t [Token]) -> Cursor<'t, 'a>
+        requires { All (IsToken text.now) tokens.now }
+        ensures { result ≡ terminals_of text.now tokens.now }
     {
-        Cursor { lexemes, taken: 0 }
+        Cursor {
+            text,
+            tokens,
+            taken: 0,
+            sort: sort_at(text, tokens, 0),
+        }
     }
 
     /// The next token, which is not taken.
-    pub fn next(&self) -> Option<&'t Lexeme<'a>>
-        ensures { option_copied result ≡ slice_get self.now 0 }
+    pub fn next(&self) -> Option<Lexeme<'a>>
+        ensures { result ≡ slice_get self.now 0 }
     {
-        self.lexemes.get(self.taken)
+        match self.tokens.get(self.taken) {
+            Some(token) => Some(Lexeme::with_sort(self.text, token, self.sort)),
+            None => None,
+        }
     }
 
     /// The sort of the next token; at the end, that of a token that no rule uses.
     pub fn next_sort(&self) -> Sort
         ensures { result ≡ next_sort self.now }
     {
-        match self.next() {
-            Some(lexeme) => lexeme.sort(),
-            None => Sort::Other,
-        }
+        self.sort
     }
 
     /// Whether the next token has the sort.
@@ -63,13 +74,15 @@ impl<'t, 'a> Cursor<'t, 'a> {
 
     /// Takes the next token, whatever its sort.
     #[tactic(auto, unfolding(st_reading::specs::Reading::take_any))]
-    pub fn take(&mut self) -> Result<&'t Lexeme<'a>, Stop>
-        ensures reads { Reads (λ lexeme. lexeme.now) (spec.take_any self.old) result self.new }
+    pub fn take(&mut self) -> Result<Lexeme<'a>, Stop>
+        ensures reads { Reads (λ lexeme. lexeme) (spec.take_any self.old) result self.new }
         ensures shorter { OnOk result (length self.new < length self.old) }
     {
-        match self.next() {
-            Some(lexeme) => {
+        match self.tokens.get(self.taken) {
+            Some(token) => {
+                let lexeme = Lexeme::with_sort(self.text, token, self.sort);
                 self.taken += 1;
+                self.sort = sort_at(self.text, self.tokens, self.taken);
                 Ok(lexeme)
             }
             None => Err(Stop::Fault),
@@ -78,8 +91,8 @@ impl<'t, 'a> Cursor<'t, 'a> {
 
     /// Takes the next token, which is to have the sort.
     #[tactic(auto, unfolding(st_reading::specs::Reading::expect, st_reading::specs::Reading::sees, st_reading::specs::Reading::take_any))]
-    pub fn expect(&mut self, sort: Sort) -> Result<&'t Lexeme<'a>, Stop>
-        ensures reads { Reads (λ lexeme. lexeme.now) (spec.expect sort self.old) result self.new }
+    pub fn expect(&mut self, sort: Sort) -> Result<Lexeme<'a>, Stop>
+        ensures reads { Reads (λ lexeme. lexeme) (spec.expect sort self.old) result self.new }
         ensures shorter { OnOk result (length self.new < length self.old) }
     {
         if self.sees(sort) {
@@ -87,5 +100,16 @@ impl<'t, 'a> Cursor<'t, 'a> {
         } else {
             Err(Stop::Fault)
         }
+    }
+}
+
+/// The sort of the token at an index; after the last one, that of a token that no rule uses.
+fn sort_at(text: &[u8], tokens: &[Token], index: usize) -> Sort
+    requires { All (IsToken text.now) tokens.now }
+    ensures { result ≡ next_sort (drop index (terminals_of text.now tokens.now)) }
+{
+    match tokens.get(index) {
+        Some(token) => sort_in(text, token),
+        None => Sort::Other,
     }
 }

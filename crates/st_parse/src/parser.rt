@@ -19,7 +19,7 @@ use crate::stops::Stop;
 use st_ast::Program;
 use st_events::Site;
 use st_lex::Token;
-use st_syntax::{Lexeme, Over, first_excess, first_over, items_of, lexemes_of};
+use st_syntax::{Over, first_excess, first_over, items_of};
 use std::alloc::Global;
 
 /// The tree of a text of at most `MOST_SOURCE_BYTES` bytes, whose tokens these are, where it is a text of the grammar
@@ -46,24 +46,15 @@ pub fn parse(alloc: Global, text: &[u8], tokens: &[Token]) -> Result<Program, Pa
 }
 
 /// The tree that the tokens of the text spell, or what is wrong with them.
+#[tactic(auto, unfolding(crate::specs::Outcomes::answer))]
 fn answer(alloc: Global, text: &[u8], tokens: &[Token]) -> Result<Program, ParseError>
     requires size { length text.now ≤ MOST_SOURCE_BYTES }
     requires tokens { All (IsToken text.now) tokens.now }
     ensures { spec.IsButForMemory result (spec.answer text.now (terminals_of text.now tokens.now)) }
 {
-    let lexemes = lexemes_of(alloc, text, tokens)?;
-    tree_of(alloc, text, &lexemes)
-}
-
-/// The tree that the tokens spell, or what is wrong with them.
-#[tactic(auto, unfolding(crate::specs::Outcomes::answer))]
-fn tree_of(alloc: Global, text: &[u8], lexemes: &[Lexeme<'_>]) -> Result<Program, ParseError>
-    requires { length text.now ≤ MOST_SOURCE_BYTES }
-    ensures { spec.IsButForMemory result (spec.answer text.now lexemes.now) }
-{
-    match first_over(lexemes) {
+    match first_over(text, tokens) {
         Some((why, at)) => Err(error_of(why, at)),
-        None => within_counts(alloc, read(alloc, text, lexemes)?),
+        None => within_counts(alloc, read(alloc, text, tokens)?),
     }
 }
 
@@ -122,11 +113,12 @@ fn place_of(text: &[u8], cursor: &Cursor<'_, '_>) -> Site
 
 /// The tree, whatever its counts.
 #[tactic(auto, unfolding(crate::specs::Outcomes::read))]
-fn read(alloc: Global, text: &[u8], lexemes: &[Lexeme<'_>]) -> Result<Program, ParseError>
-    requires { length text.now ≤ MOST_SOURCE_BYTES }
-    ensures { spec.IsButForMemory result (spec.read text.now lexemes.now) }
+fn read(alloc: Global, text: &[u8], tokens: &[Token]) -> Result<Program, ParseError>
+    requires size { length text.now ≤ MOST_SOURCE_BYTES }
+    requires tokens { All (IsToken text.now) tokens.now }
+    ensures { spec.IsButForMemory result (spec.read text.now (terminals_of text.now tokens.now)) }
 {
-    let mut cursor = Cursor::make(lexemes);
+    let mut cursor = Cursor::make(text, tokens);
     match program(alloc, &mut cursor) {
         Ok(program) => Ok(program),
         Err(Stop::Memory) => Err(ParseError::Memory),

@@ -123,7 +123,7 @@ pub fn place(alloc: Global, cursor: &mut Cursor<'_, '_>) -> Result<Expr, Stop>
         }
         _ => {
             let object = cursor.expect(Sort::Name)?;
-            place_after(alloc, cursor, object)
+            place_after(alloc, cursor, &object)
         }
     }
 }

@@ -51,7 +51,7 @@ fn named(alloc: Global, cursor: &mut Cursor<'_, '_>, depth: usize) -> Result<Exp
 {
     let name = cursor.expect(Sort::Name)?;
     if !cursor.sees(Sort::OpenParen) {
-        return Ok(local(alloc, name)?);
+        return Ok(local(alloc, &name)?);
     }
     cursor.expect(Sort::OpenParen)?;
     let args = arguments(alloc, cursor, depth)?;

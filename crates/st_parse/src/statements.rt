@@ -80,10 +80,10 @@ pub fn named_stmt(alloc: Global, cursor: &mut Cursor<'_, '_>) -> Result<Stmt, St
 {
     let name = cursor.expect(Sort::Name)?;
     match cursor.next_sort() {
-        Sort::Assign => assign_after(alloc, cursor, name),
-        Sort::OpenParen => call_after(alloc, cursor, name),
+        Sort::Assign => assign_after(alloc, cursor, &name),
+        Sort::OpenParen => call_after(alloc, cursor, &name),
         Sort::Dot => {
-            let place = place_after(alloc, cursor, name)?;
+            let place = place_after(alloc, cursor, &name)?;
             put_after(alloc, cursor, place)
         }
         _ => Err(Stop::Fault),

@@ -1,7 +1,8 @@
 //! Tokens as the grammar sees them.
-ghost use Rattle.std.specs.Prelude.{◌≡◌, All, IfOk};
-ghost use Rattle.st_lex.specs.Tokens.{IsToken};
-ghost use Rattle.st_syntax.specs.Terminals.{terminal_of, terminals_of, value_of};
+ghost use Rattle.std.specs.Prelude.{◌≡◌, IfOk};
+ghost use Rattle.st_lex.specs.Tokens.{IsToken, text_of};
+ghost use Rattle.st_syntax.specs.Sorts as sorts;
+ghost use Rattle.st_syntax.specs.Terminals.{terminal_of, value_of};
 
 use crate::sorts::{Sort, sort_of};
 use st_ast::Name;
@@ -29,14 +30,22 @@ impl<'a> Model for Lexeme<'a> {
 
 impl<'a> Lexeme<'a> {
     /// The token of the text.
-    fn make(text: &'a [u8], token: &Token) -> Lexeme<'a>
+    pub fn make(text: &'a [u8], token: &Token) -> Lexeme<'a>
         requires { IsToken text.now token.now }
         ensures { result ≡ terminal_of text.now token.now }
     {
-        let bytes = &text[token.start as usize..token.end as usize];
+        Lexeme::with_sort(text, token, sort_in(text, token))
+    }
+
+    /// The token of the text, whose sort is known.
+    pub fn with_sort(text: &'a [u8], token: &Token, sort: Sort) -> Lexeme<'a>
+        requires token { IsToken text.now token.now }
+        requires sort { sort ≡ sorts.sort_of token.now.kind (text_of text.now token.now) }
+        ensures { result ≡ terminal_of text.now token.now }
+    {
         Lexeme {
-            sort: sort_of(token.kind, bytes),
-            bytes,
+            sort,
+            bytes: &text[token.start as usize..token.end as usize],
             value: value_of(token.kind),
             site: token.site,
         }
@@ -81,18 +90,10 @@ fn value_of(kind: TokenKind) -> i64
     }
 }
 
-/// The tokens of the text as the grammar sees them.
-pub fn lexemes_of<'a>(
-    alloc: Global,
-    text: &'a [u8],
-    tokens: &[Token],
-) -> Result<Vec<Lexeme<'a>>, AllocError>
-    requires { All (IsToken text.now) tokens.now }
-    ensures { IfOk result (λ list. list.items ≡ terminals_of text.now tokens.now) }
+/// The sort of a token of the text.
+pub fn sort_in(text: &[u8], token: &Token) -> Sort
+    requires { IsToken text.now token.now }
+    ensures { result ≡ sorts.sort_of token.now.kind (text_of text.now token.now) }
 {
-    let mut list = Vec::with_capacity(alloc, tokens.len())?;
-    for token in tokens {
-        list.push(Lexeme::make(text, token))?;
-    }
-    Ok(list)
+    sort_of(token.kind, &text[token.start as usize..token.end as usize])
 }

@@ -13,7 +13,7 @@ mod token_limits;
 
 pub use counts::{Item, What, first_excess};
 pub use items::items_of;
-pub use lexemes::{Lexeme, lexemes_of};
+pub use lexemes::{Lexeme, sort_in};
 pub use limits::MOST_TOKENS_BETWEEN;
 pub use operators::{Chain, comparison};
 pub use sorts::{Sort, same_sort};

@@ -1,5 +1,7 @@
 //! The limits on tokens: how many braces are open, and how many tokens stand between two of `;`, `{` and `}`.
-ghost use Rattle.std.specs.Prelude.{◌≡◌, None};
+ghost use Rattle.std.specs.Prelude.{◌≡◌, All, None};
+ghost use Rattle.st_lex.specs.Tokens.{IsToken};
+ghost use Rattle.st_syntax.specs.Terminals.{terminals_of};
 ghost use Rattle.st_syntax.specs.TokenLimits as spec;
 
 use crate::lexemes::Lexeme;
@@ -7,6 +9,7 @@ use crate::limits::MOST_TOKENS_BETWEEN;
 use crate::sorts::Sort;
 use st_ast::MOST_OPEN_BRACES;
 use st_events::Site;
+use st_lex::Token;
 
 /// Why a token is above a limit.
 #[derive(Clone, Copy, Debug, PartialEq, Eq)]
@@ -61,19 +64,21 @@ impl TokenCounts {
     }
 }
 
-/// The first token above a limit, and why.
+/// The first token of the text above a limit, and why.
 #[tactic(auto, unfolding(crate::specs::TokenLimits::first_over))]
-pub fn first_over(lexemes: &[Lexeme<'_>]) -> Option<(Over, Site)>
-    ensures { result ≡ spec.first_over lexemes.now }
+pub fn first_over(text: &[u8], tokens: &[Token]) -> Option<(Over, Site)>
+    requires { All (IsToken text.now) tokens.now }
+    ensures { result ≡ spec.first_over (terminals_of text.now tokens.now) }
 {
     let mut counts = TokenCounts {
         braces: 0,
         since: 0,
     };
-    for lexeme in lexemes {
-        match counts.excess(lexeme) {
+    for token in tokens {
+        let lexeme = Lexeme::make(text, token);
+        match counts.excess(&lexeme) {
             Some(over) => return Some(over),
-            None => counts.count(lexeme),
+            None => counts.count(&lexeme),
         }
     }
     None
