@@ -124,7 +124,7 @@ use Rattle.st_events.specs.declared.events.Event.TheVariants.{New}
 use Rattle.st_events.specs.Heap.{Heap, Object, class_at, fresh, with_object}
 use Rattle.st_events.specs.History.{heap_after}
 use Rattle.st_events.specs.Legal.{IsLegal}
-use Rattle.st_events.specs.Shape.{ShapeLists}
+use Rattle.st_events.specs.Shape.{ShapeLists, kinds_of}
 use Rattle.st_events.specs.Sound.{IsTypedHeap, Extends}
 use Rattle.st_events.specs.World.{World}
 use Rattle.st_events.proofs.ExtendsLemmas.{heap_extends}
@@ -288,6 +288,14 @@ returns g c =
     made_number g.J.Judge.meant c.args.shared.now c.args.inside.now.seat.view.gate.number c.new.result c.args.inside.now.seat c.new.new.inside.seat c.requires.may
     c.new.ensures.new c.new.ensures.fair
 END_
+answers pick <<'END_'
+use Rattle.barrierbench.proofs.UsingLemmas.{shared_number}
+use Rattle.barrierbench.proofs.table.pick.Goals as goal
+
+pub returns-else-own : goal.returns-else-own
+returns-else-own g c = shared_number g.J.Judge.meant c.args.shared.now c.args.inside.now.seat c.requires
+END_
+
 mkdir -p "$program/proofs/table/act_often"
 cat > "$program/proofs/table/act_often/Invariants.antt" <<'END_'
 use Rattle.barrierbench.specs.Using.{MayUse}
@@ -404,7 +412,6 @@ fn make_own<J: Judge>(shared: &Shared<J>, inside: &mut Inside<J>) -> u32
 }
 
 /// The object that the calls are made on.
-#[tactic(auto, using(crate::proofs::UsingLemmas::shared_number))]
 fn pick<J: Judge>(shared: &Shared<J>, inside: &mut Inside<J>, own: bool) -> u32
     requires { MayCount J.meant shared.now inside.old.seat }
     ensures { MayUse J.meant shared.now result inside.new.seat }
