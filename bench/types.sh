@@ -19,6 +19,8 @@ mkdir -p "$scratch/crates/typesbench/src"
 cat > "$scratch/crates/typesbench/src/main.rt" <<'END'
 //! Reads generated sources and prints how fast each stage is.
 #![tactic(auto)]
+ghost use Rattle.std.specs.Prelude.{◌≤◌, length};
+ghost use Rattle.st_lex.specs.declared.limits.TheConstants.{MOST_SOURCE_BYTES};
 
 use anyhow::Result;
 use st_lex::{MOST_SOURCE_BYTES, tokens};
@@ -70,7 +72,9 @@ struct Best {
 }
 
 /// `tokens` and `parse` by themselves.
-fn pass_of_tree(rt: &HostRuntime, text: &[u8], best: &mut Best) -> Result<usize> {
+fn pass_of_tree(rt: &HostRuntime, text: &[u8], best: &mut Best) -> Result<usize>
+    requires { length text.now ≤ MOST_SOURCE_BYTES }
+{
     let start = Instant::now(rt)?;
     let list = tokens(rt.alloc(), text)?;
     best.tokens = best.tokens.min(micros_since(rt, start)?);
