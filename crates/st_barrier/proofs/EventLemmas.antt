@@ -16,6 +16,7 @@ use Rattle.st_events.specs.World.{world_after}
 use Rattle.st_events.proofs.LegalLemmas.{each_is_legal}
 use Rattle.st_events.proofs.LegalEvents.{legal_load, legal_cas}
 use Rattle.st_rule.specs.declared.views.Flight.{Flight}
+use Rattle.st_rule.specs.declared.views.GateView.{GateView}
 use Rattle.st_rule.specs.declared.views.Held.{Held}
 use Rattle.st_rule.specs.declared.views.JournalView.{JournalView}
 use Rattle.st_rule.specs.declared.views.LoadedField.{LoadedField}
@@ -35,7 +36,7 @@ use Rattle.st_rule.specs.Turns.{unlocked, word_written, with_written, landed}
 use Rattle.st_rule.proofs.EntryLemmas.{entry, charge_more}
 use Rattle.st_barrier.specs.Calls.{MayCall, HasCell, FitsCell, MakesEvent, Loads, Compares}
 use Rattle.st_barrier.specs.Hands.{StaysAs, HasLoadedFields, HoldsQuietly, HasEpoch, IsPlain, KeepsEpoch, OwesHeader}
-use Rattle.st_barrier.specs.Keeping.{HasFound, HasFields, MayChange, Flies, quiet_hand, awaiting_of}
+use Rattle.st_barrier.specs.Keeping.{HasFound, HasFields, MayChange, Flies, event_of_change, quiet_hand, awaiting_of}
 use Rattle.st_barrier.proofs.HandLemmas.{stays_self, stays_by, heap_same}
 
 -- an event that sets a field leaves itself in flight
@@ -423,6 +424,15 @@ cas_of a c obj f expect value done made = record {
   answer = (legal_cas c.view.terms.shape c.view.terms.sizes (world_after c.view.terms.shape c.view.terms.sizes made.past) a.view.gate.number obj f expect value done
       (each_is_legal c.view.terms.shape c.view.terms.sizes made.past [] (Cas a.view.gate.number obj f expect value done) made.legal)).answer;
 }
+
+-- a change by the seat's own number it may draw once nothing was drawn since
+pub own_change_stays :
+    (a b : SeatValue) → StaysAs a b → (obj stamp f value : ℕ) (found : Option ℕ)
+    → MayChange (event_of_change a.view.gate.number obj f value found) obj stamp f value found a
+    → MayChange (event_of_change b.view.gate.number obj f value found) obj stamp f value found b
+own_change_stays a b stays obj stamp f value found may =
+    subst (λ m. MayChange (event_of_change m obj f value found) obj stamp f value found b) (sym (ap (λ (x : GateView). x.number) stays.gate))
+    (change_stays a b stays (event_of_change a.view.gate.number obj f value found) obj stamp f value found may)
 
 -- a Cas that is not done leaves nothing in flight
 pub undone_plain : (m obj f expect value : ℕ) (done : Bool) → done ≡ false → IsPlain (Cas m obj f expect value done)

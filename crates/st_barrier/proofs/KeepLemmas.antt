@@ -29,7 +29,7 @@ use Rattle.st_rule.specs.Plays.{Finds, FindsAndDraws}
 use Rattle.st_rule.proofs.PackedLemmas.{low_packed}
 use Rattle.st_rule.specs.Turns.{copy_stored, forwarded, field_found, with_field, with_built, with_forward}
 use Rattle.st_barrier.specs.Hands.{StaysAs, KeepsEpoch, HasLoadedFields, HoldsQuietly}
-use Rattle.st_barrier.specs.Keeping.{HasFound, HoldsFound, HoldsFields, LoadsField, HasFields, MayChange, KnowsChecks, KeepsBoard, KeepsLanes, HasLoadedWord}
+use Rattle.st_barrier.specs.Keeping.{HasFound, HoldsFound, HoldsFields, LoadsField, HasFields, MayChange, KnowsChecks, KnowsNoNeed, KeepsBoard, KeepsLanes, HasLoadedWord}
 use Rattle.st_barrier.specs.Keeping.{LoadsWord, Flies, IsWord, NamesCopy, NamesNone, IsTargeted, IsKept, AreKnown, quiet_hand, lanes_in, awaiting_of}
 use Rattle.st_barrier.proofs.HandLemmas.{stays_by, stays_self, stays_then}
 use Rattle.st_barrier.proofs.EventLemmas.{setting_changes}
@@ -174,14 +174,10 @@ takes_some e lanes moves some = sym some ∙ ap (λ b. if b then is_any lanes el
 takes_unneeded : (e : Event) (lanes : List ℕ) → is_change e ≡ true → is_any lanes ≡ false → false ≡ takes_copy e lanes
 takes_unneeded e lanes moves none = sym none ∙ ap (λ b. if b then is_any lanes else false) (sym moves)
 
-module _ (seat : SeatValue) (e : Event) (obj stamp field value : ℕ) (found : Option ℕ) (checks : List ℕ)
-    (may : MayChange e obj stamp field value found seat) (knows : KnowsChecks stamp checks seat)
+module _ (seat : SeatValue) (e : Event) (obj stamp field value : ℕ) (found : Option ℕ) (may : MayChange e obj stamp field value found seat)
     (loaded : List LoadedField) (held : seat.view.held ≡ Some (quiet_hand obj stamp loaded)) (found_is : HasFound loaded field found) where
-  pub lanes_are : needing_lanes seat.view (quiet_hand obj stamp loaded) ≡ lanes_in checks seat.view.terms.sizes.lanes
-  lanes_are = knows.lanes (quiet_hand obj stamp loaded) refl
-
-  pub draws_unneeded : is_any (lanes_in checks seat.view.terms.sizes.lanes) ≡ false → MayDraw seat.view e false
-  draws_unneeded none = record {
+  pub draws_unneeded : KnowsNoNeed stamp seat → MayDraw seat.view e false
+  draws_unneeded unneeded = record {
     inside = may.inside;
     mutator = may.mutator;
     charge = may.charge;
@@ -189,22 +185,28 @@ module _ (seat : SeatValue) (e : Event) (obj stamp field value : ℕ) (found : O
     held = held;
     quiet = refl;
     suits = may.suits loaded found_is;
-    known = λ _. knows.known (quiet_hand obj stamp loaded) refl;
-    copied = takes_unneeded e (needing_lanes seat.view (quiet_hand obj stamp loaded)) (setting_changes e field value may.sets) (ap is_any lanes_are ∙ none);
+    known = λ _. unneeded.known (quiet_hand obj stamp loaded) refl;
+    copied =
+        takes_unneeded e (needing_lanes seat.view (quiet_hand obj stamp loaded)) (setting_changes e field value may.sets)
+        (ap is_any (unneeded.none (quiet_hand obj stamp loaded) refl));
   }
 
-  pub draws_needed : is_any (lanes_in checks seat.view.terms.sizes.lanes) ≡ true → MayDraw seat.view e true
-  draws_needed some = record {
-    inside = may.inside;
-    mutator = may.mutator;
-    charge = may.charge;
-    hand = quiet_hand obj stamp loaded;
-    held = held;
-    quiet = refl;
-    suits = may.suits loaded found_is;
-    known = λ _. knows.known (quiet_hand obj stamp loaded) refl;
-    copied = takes_some e (needing_lanes seat.view (quiet_hand obj stamp loaded)) (setting_changes e field value may.sets) (ap is_any lanes_are ∙ some);
-  }
+  module _ (checks : List ℕ) (knows : KnowsChecks stamp checks seat) where
+    pub lanes_are : needing_lanes seat.view (quiet_hand obj stamp loaded) ≡ lanes_in checks seat.view.terms.sizes.lanes
+    lanes_are = knows.lanes (quiet_hand obj stamp loaded) refl
+
+    pub draws_needed : is_any (lanes_in checks seat.view.terms.sizes.lanes) ≡ true → MayDraw seat.view e true
+    draws_needed some = record {
+      inside = may.inside;
+      mutator = may.mutator;
+      charge = may.charge;
+      hand = quiet_hand obj stamp loaded;
+      held = held;
+      quiet = refl;
+      suits = may.suits loaded found_is;
+      known = λ _. knows.known (quiet_hand obj stamp loaded) refl;
+      copied = takes_some e (needing_lanes seat.view (quiet_hand obj stamp loaded)) (setting_changes e field value may.sets) (ap is_any lanes_are ∙ some);
+    }
 
 -- ---- the copy
 

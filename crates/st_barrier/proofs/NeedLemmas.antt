@@ -25,7 +25,7 @@ use Rattle.st_rule.specs.SeatValue.{SeatValue, IsFairView}
 use Rattle.st_rule.specs.Seats.{IsSameSeat, IsFair}
 use Rattle.st_rule.specs.Turns.{board_loaded}
 use Rattle.st_barrier.specs.Hands.{HasEpoch, KeepsEpoch}
-use Rattle.st_barrier.specs.Keeping.{HasLoadedWord, LoadsPlace, LoadsWord, LoadsNeed, HasNeed, KnowsChecks, lanes_in}
+use Rattle.st_barrier.specs.Keeping.{HasLoadedWord, LoadsPlace, LoadsWord, LoadsNeed, HasNeed, KnowsChecks, KnowsNoNeed, HasLaunchSince, lanes_in}
 use Rattle.st_barrier.proofs.HandLemmas.{stays_by}
 
 -- ---- one word
@@ -182,15 +182,14 @@ module _ (stamp : ℕ) (checks : List ℕ) (seat : SeatValue) where
       ap (nat_lt 0) need.need_is ∙ need_above stamp need.check (nat_lt stamp need.check) refl in
       (λ i. if nat_lt stamp (found i) then n ∷ rest i else rest i) ∙ ap (λ b. if b then n ∷ lanes_in checks n else lanes_in checks n) (sym test)
 
-  -- every lane was loaded, and the epoch is above the stamp
+  -- every lane was loaded, and some check was launched after the stamp
   pub all_known :
-      (epoch : ℕ) → HasEpoch epoch seat → stamp < epoch
-      → ((lane : ℕ) → lane < seat.view.terms.sizes.lanes → HasNeed stamp (slice_index checks lane) lane seat)
+      HasLaunchSince stamp seat → ((lane : ℕ) → lane < seat.view.terms.sizes.lanes → HasNeed stamp (slice_index checks lane) lane seat)
       → KnowsChecks stamp checks seat
-  all_known epoch known above needs = record {
+  all_known launched needs = record {
     lanes = λ h stamp_is.
         let none : knows_none seat.view h ≡ false =
-        (λ i. is_at_most (known i) (stamp_is i)) ∙ not_le epoch stamp above in
+        (λ i. is_at_most (launched.loaded i) (stamp_is i)) ∙ not_le launched.epoch stamp launched.above in
         ap (λ b. if b then [] else lanes_above (plan_of seat.view.terms.sizes) seat.view.board.loaded h.stamp seat.view.terms.sizes.lanes) none
         ∙ ap (λ s. lanes_above (plan_of seat.view.terms.sizes) seat.view.board.loaded s seat.view.terms.sizes.lanes) stamp_is
         ∙ lanes_same seat.view.terms.sizes.lanes needs;
@@ -202,20 +201,14 @@ module _ (stamp : ℕ) (checks : List ℕ) (seat : SeatValue) where
         need.loaded ∙ ap Some (sym is);
   }
 
-  no_lanes : (count : ℕ) → ((lane : ℕ) → slice_index checks lane ≡ 0) → lanes_in checks count ≡ []
-  no_lanes zero zeros = refl
-  no_lanes (suc n) zeros = ap (λ k. if nat_lt 0 k then n ∷ lanes_in checks n else lanes_in checks n) (zeros n) ∙ no_lanes n zeros
-
-  -- no check was launched since
-  pub none_known : (epoch : ℕ) → HasEpoch epoch seat → epoch ≤ stamp → ((lane : ℕ) → slice_index checks lane ≡ 0) → KnowsChecks stamp checks seat
-  none_known epoch known within zeros =
-      let none : (h : Held) → h.stamp ≡ stamp → knows_none seat.view h ≡ true = λ h stamp_is. (λ i. is_at_most (known i) (stamp_is i)) ∙ true_le epoch stamp within in
-      record {
-        lanes = λ h stamp_is. ap (λ b. if b then [] else lanes_above (plan_of seat.view.terms.sizes) seat.view.board.loaded h.stamp seat.view.terms.sizes.lanes) (none h stamp_is)
-            ∙ sym (no_lanes seat.view.terms.sizes.lanes zeros);
-        known = λ h stamp_is. inr (none h stamp_is);
-        loaded = λ lane lt some. absurd (let z = zeros lane in omega (arith, z, some));
-      }
+-- no check was launched since
+pub none_known : (stamp : ℕ) (seat : SeatValue) (epoch : ℕ) → HasEpoch epoch seat → epoch ≤ stamp → KnowsNoNeed stamp seat
+none_known stamp seat epoch known within =
+    let none : (h : Held) → h.stamp ≡ stamp → knows_none seat.view h ≡ true = λ h stamp_is. (λ i. is_at_most (known i) (stamp_is i)) ∙ true_le epoch stamp within in
+    record {
+      none = λ h stamp_is. ap (λ b. if b then [] else lanes_above (plan_of seat.view.terms.sizes) seat.view.board.loaded h.stamp seat.view.terms.sizes.lanes) (none h stamp_is);
+      known = λ h stamp_is. inr (none h stamp_is);
+    }
 
 -- ---- whether any lane needs it
 
@@ -251,9 +244,21 @@ none_here checks lane none rest =
     ∙ ap (λ b. if b then lane ∷ lanes_in checks lane else lanes_in checks lane) (not_lt 0 (slice_index checks lane) none) ∙ rest
 
 -- a list without any is empty
-pub none_of : (lanes : List ℕ) → is_any lanes ≡ false → lanes ≡ []
+none_of : (lanes : List ℕ) → is_any lanes ≡ false → lanes ≡ []
 none_of [] e = refl
 none_of (n ∷ ns) e = absurd cc
+
+-- none of the checks that the seat knows needs it
+pub none_found : (stamp : ℕ) (checks : List ℕ) (seat : SeatValue) → KnowsChecks stamp checks seat → is_any (lanes_in checks seat.view.terms.sizes.lanes) ≡ false → KnowsNoNeed stamp seat
+none_found stamp checks seat knows none = record {
+  none = λ h stamp_is. knows.lanes h stamp_is ∙ none_of (lanes_in checks seat.view.terms.sizes.lanes) none;
+  known = knows.known;
+}
+
+-- a launch since the stamp stays known
+pub launch_stays :
+    (stamp : ℕ) (before after : SeatValue) → KeepsEpoch before after → HasLaunchSince stamp before → HasLaunchSince stamp after
+launch_stays stamp before after keeps launched = record { epoch = launched.epoch; loaded = keeps launched.epoch launched.loaded; above = launched.above }
 
 -- one need more
 pub need_more :

@@ -1,9 +1,10 @@
 -- What stands between the steps of a change that may keep an old version.
-use Rattle.std.specs.Prelude.{◌≡◌, ◌≢◌, ℕ, zero, suc, ◌+◌, ◌<◌, ◌≤◌, ◌⊎◌, nat_lt, false, if◌then◌else◌, List, [], ◌∷◌, Option, Some, None, slice_index}
+use Rattle.std.specs.Prelude.{◌≡◌, ◌≢◌, ℕ, zero, suc, ◌+◌, ◌<◌, ◌≤◌, ◌⊎◌, nat_lt, true, false, if◌then◌else◌, List, [], ◌∷◌, Option, Some, None, slice_index}
 use Rattle.st_layout.specs.declared.limits.TheConstants.{MOST_FIELDS}
 use Rattle.st_layout.specs.Layout.{word_of}
 use Rattle.st_layout.specs.Names.{WordName, AvailableWord, LaneWord, FreeWord}
 use Rattle.st_events.specs.declared.events.Event.{Event}
+use Rattle.st_events.specs.declared.events.Event.TheVariants.{Store, Cas}
 use Rattle.st_rule.specs.declared.forwards.TheConstants.{LOST}
 use Rattle.st_rule.specs.declared.views.Flight.{Flight}
 use Rattle.st_rule.specs.declared.views.Held.{Held}
@@ -15,7 +16,7 @@ use Rattle.st_rule.specs.Entries.{charge_of, charge_spent}
 use Rattle.st_rule.specs.Holding.{IsSetting, field_loaded, word_loaded}
 use Rattle.st_rule.specs.Needs.{KnowsNeed, needing_lanes}
 use Rattle.st_rule.specs.SeatValue.{SeatValue}
-use Rattle.st_barrier.specs.Hands.{StaysAs}
+use Rattle.st_barrier.specs.Hands.{StaysAs, HasEpoch}
 
 -- a hand with nothing in flight
 abbrev pub quiet_hand : (obj stamp : ℕ) → List LoadedField → Held
@@ -30,6 +31,11 @@ pub record HoldsFound (obj stamp field : ℕ) (found : Option ℕ) (seat : SeatV
   pub loaded : List LoadedField
   pub held : seat.view.held ≡ Some (quiet_hand obj stamp loaded)
   pub found_is : HasFound loaded field found
+
+-- the event of a change: a Store where no word is told as found, and else the Cas that found it
+abbrev pub event_of_change : (m obj field value : ℕ) → (found : Option ℕ) → Event
+event_of_change m obj field value None = Store m obj field value
+event_of_change m obj field value (Some found) = Cas m obj field found value true
 
 -- the event is a change that the seat may draw once it knows which checks need the old version, whatever other fields it loads meanwhile
 pub record MayChange (event : Event) (obj stamp field value : ℕ) (found : Option ℕ) (seat : SeatValue) : Type 0 where
@@ -88,6 +94,17 @@ pub record KnowsChecks (stamp : ℕ) (checks : List ℕ) (seat : SeatValue) : Ty
   pub lanes : (h : Held) → h.stamp ≡ stamp → needing_lanes seat.view h ≡ lanes_in checks seat.view.terms.sizes.lanes
   pub known : (h : Held) → h.stamp ≡ stamp → KnowsNeed seat.view h
   pub loaded : (lane : ℕ) → lane < seat.view.terms.sizes.lanes → 0 < slice_index checks lane → HasLoadedWord (LaneWord lane) (slice_index checks lane) seat
+
+-- the seat knows that no check needs the version with this stamp
+pub record KnowsNoNeed (stamp : ℕ) (seat : SeatValue) : Type 0 where
+  pub none : (h : Held) → h.stamp ≡ stamp → needing_lanes seat.view h ≡ []
+  pub known : (h : Held) → h.stamp ≡ stamp → KnowsNeed seat.view h
+
+-- by the epoch that the seat loaded, some check was launched after the stamp
+pub record HasLaunchSince (stamp : ℕ) (seat : SeatValue) : Type 0 where
+  pub epoch : ℕ
+  pub loaded : HasEpoch epoch seat
+  pub above : stamp < epoch
 
 -- the fields of the held object, as they were loaded
 abbrev pub HasFields : List ℕ → (count : ℕ) → List LoadedField → Type 0

@@ -1,7 +1,7 @@
 //! Cas.
-ghost use Rattle.std.specs.Prelude.{◌≡◌, ◌<◌, Some, true, false};
+ghost use Rattle.std.specs.Prelude.{◌<◌, Some, true, false};
 ghost use Rattle.st_barrier.specs.Calls.{MayCall, HasCell, FitsCell, MakesEvent, Compares};
-ghost use Rattle.st_barrier.specs.Hands.{IsPlain};
+ghost use Rattle.st_barrier.specs.Hands.{HoldsQuietly};
 ghost use Rattle.st_barrier.specs.Keeping.{HoldsFound, MayChange};
 ghost use Rattle.st_events.specs.declared.events.Event.TheVariants.{Cas};
 ghost use Rattle.st_gate.specs.Phases.{IsInside};
@@ -9,7 +9,6 @@ ghost use Rattle.st_layout.specs.declared.limits.TheConstants.{MOST_FIELDS};
 ghost use Rattle.st_rule.specs.Draws.{MayDraw};
 ghost use Rattle.st_rule.specs.Seats.{IsSeatOf, IsFair, HoldsNothing};
 
-use crate::changes::FieldChange;
 use crate::events::{apply_change, note};
 use crate::locking::{lock, read};
 use st_events::{Event, Judge};
@@ -61,50 +60,63 @@ fn cas_with<J: Judge, R: Wait>(
     ensures inside { IsInside seat.new }
     ensures hand { HoldsNothing seat.new }
 {
-    let m = seat.number();
     let stamp = lock(rt, shared, seat, obj);
     let found = read(shared, seat, obj, field, stamp);
-    let done = found == expect;
+    if found == expect {
+        exchange(shared, seat, obj, stamp, field, expect, value);
+        true
+    } else {
+        miss(shared, seat, obj, stamp, field, expect, value);
+        false
+    }
+}
+
+/// A Cas that is done: what was found in the field is what was expected.
+fn exchange<J: Judge>(
+    shared: &Shared<J>,
+    seat: &mut MutSeat<J>,
+    obj: u32,
+    stamp: u32,
+    field: u8,
+    expect: u64,
+    value: u64,
+)
+    requires table { IsSeatOf J.meant shared.now seat.old }
+    requires fair { IsFair seat.old }
+    requires hand { HoldsFound obj stamp field (Some expect) seat.old }
+    requires field { field < MOST_FIELDS }
+    requires event { MayChange (Cas seat.old.view.gate.number obj field expect value true) obj stamp field value (Some expect) seat.old }
+    ensures made { MakesEvent (Cas seat.old.view.gate.number obj field expect value true) seat.old seat.new }
+    ensures fair { IsFair seat.new }
+    ensures hand { HoldsNothing seat.new }
+{
+    apply_change(shared, seat, obj, stamp, field, value, Some(expect));
+}
+
+/// A Cas that is not done: it changes nothing.
+fn miss<J: Judge>(
+    shared: &Shared<J>,
+    seat: &mut MutSeat<J>,
+    obj: u32,
+    stamp: u32,
+    field: u8,
+    expect: u64,
+    value: u64,
+)
+    requires table { IsSeatOf J.meant shared.now seat.old }
+    requires hand { HoldsQuietly obj stamp seat.old }
+    requires event { MayDraw seat.old.view (Cas seat.old.view.gate.number obj field expect value false) false }
+    ensures made { MakesEvent (Cas seat.old.view.gate.number obj field expect value false) seat.old seat.new }
+    ensures fair { IsFair seat.new }
+    ensures hand { HoldsNothing seat.new }
+{
     let event = Event::Cas {
-        m,
+        m: seat.number(),
         obj,
         field,
         expect,
         value,
-        done,
+        done: false,
     };
-    let change = FieldChange {
-        obj,
-        stamp,
-        field,
-        value,
-        event,
-    };
-    settle(shared, seat, change, found, done);
-    done
-}
-
-/// The event of a Cas: a change where it is done, and else it changes nothing.
-fn settle<J: Judge>(
-    shared: &Shared<J>,
-    seat: &mut MutSeat<J>,
-    change: FieldChange,
-    found: u64,
-    done: bool,
-)
-    requires table { IsSeatOf J.meant shared.now seat.old }
-    requires fair { IsFair seat.old }
-    requires hand { HoldsFound change.obj change.stamp change.field (Some found) seat.old }
-    requires field { change.field < MOST_FIELDS }
-    requires done { done ≡ true → MayChange change.event change.obj change.stamp change.field change.value (Some found) seat.old }
-    requires undone { done ≡ false → MayDraw seat.old.view change.event false × IsPlain change.event }
-    ensures made { MakesEvent change.event seat.old seat.new }
-    ensures fair { IsFair seat.new }
-    ensures hand { HoldsNothing seat.new }
-{
-    if done {
-        apply_change(shared, seat, change, Some(found));
-    } else {
-        note(shared, seat, change.obj, change.stamp, change.event);
-    }
+    note(shared, seat, obj, stamp, event);
 }

@@ -8,9 +8,9 @@ ghost use Rattle.st_rule.specs.Needs.{is_any};
 ghost use Rattle.st_rule.specs.Seats.{IsSeatOf, IsFair, HoldsNothing};
 ghost use Rattle.st_barrier.specs.Calls.{MakesEvent};
 ghost use Rattle.st_barrier.specs.Hands.{StaysAs, HoldsQuietly, HasEpoch, IsPlain, OwesHeader, KeepsEpoch};
-ghost use Rattle.st_barrier.specs.Keeping.{HoldsFound, HoldsFields, MayChange, KnowsChecks, Flies, awaiting_of, lanes_in};
+ghost use Rattle.st_barrier.specs.Keeping.{HoldsFound, HoldsFields, MayChange, KnowsChecks, KnowsNoNeed, Flies, awaiting_of, event_of_change, lanes_in};
 
-use crate::changes::FieldChange;
+use crate::changes::{FieldChange, change_event};
 use crate::needs::LANE_PLACES;
 use crate::versions::FIELD_PLACES;
 use st_events::{Event, Judge};
@@ -47,24 +47,27 @@ pub(crate) fn give_back<J: Judge>(shared: &Shared<J>, seat: &mut MutSeat<J>, obj
 }
 
 /// Draws a change whose old version no check needs. The field is left to write.
+#[inline(always)]
 pub(crate) fn draw_unneeded<J: Judge>(
     shared: &Shared<J>,
     seat: &mut MutSeat<J>,
-    change: FieldChange,
+    obj: u32,
+    stamp: u32,
+    field: u8,
+    value: u64,
     found: Option<u64>,
-    checks: &[u32; LANE_PLACES],
 )
     requires table { IsSeatOf J.meant shared.now seat.old }
-    requires hand { HoldsFound change.obj change.stamp change.field found seat.old }
-    requires event { MayChange change.event change.obj change.stamp change.field change.value found seat.old }
-    requires checks { KnowsChecks change.stamp checks.now seat.old }
-    requires none { is_any (lanes_in checks.now seat.old.view.terms.sizes.lanes) ≡ false }
-    ensures made { MakesEvent change.event seat.old seat.new }
+    requires hand { HoldsFound obj stamp field found seat.old }
+    requires event { MayChange (event_of_change seat.old.view.gate.number obj field value found) obj stamp field value found seat.old }
+    requires unneeded { KnowsNoNeed stamp seat.old }
+    ensures made { MakesEvent (event_of_change seat.old.view.gate.number obj field value found) seat.old seat.new }
     ensures fair { IsFair seat.new }
-    ensures flight { AwaitsField seat.new.view change.obj change.field change.value }
+    ensures flight { AwaitsField seat.new.view obj field value }
     ensures epoch { KeepsEpoch seat.old seat.new }
 {
-    shared.draw(seat, change.event, false);
+    let event = change_event(seat.number(), obj, field, value, found);
+    shared.draw(seat, event, false);
 }
 
 /// Draws a change with an index of the free list, and gives that. The old version is left to keep, and then the field to write.

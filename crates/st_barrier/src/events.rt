@@ -12,14 +12,14 @@ ghost use Rattle.st_rule.specs.Needs.{is_any};
 ghost use Rattle.st_rule.specs.Seats.{IsSeatOf, IsFair, HoldsNothing};
 ghost use Rattle.st_barrier.specs.Calls.{MakesEvent};
 ghost use Rattle.st_barrier.specs.Hands.{StaysAs, HoldsQuietly, HasEpoch, IsPlain, KeepsEpoch};
-ghost use Rattle.st_barrier.specs.Keeping.{HoldsFound, MayChange, KnowsChecks, lanes_in};
+ghost use Rattle.st_barrier.specs.Keeping.{HoldsFound, MayChange, KnowsChecks, HasLaunchSince, event_of_change, lanes_in};
 
-use crate::changes::FieldChange;
+use crate::changes::{FieldChange, change_event};
 use crate::drawing::{
     draw_needed, draw_new, draw_plain, draw_unneeded, give_back, give_back_changed, write_class,
     write_field,
 };
-use crate::needs::{LANE_PLACES, is_any_needed, needing_checks};
+use crate::needs::{LANE_PLACES, is_any_needed, is_launched_since, needing_checks};
 use crate::versions::{forward, keep_version, load_fields};
 use st_events::{Event, Judge};
 use st_rule::{MutSeat, Shared};
@@ -44,50 +44,95 @@ pub(crate) fn note<J: Judge>(
     give_back(shared, seat, obj, stamp);
 }
 
-/// A change of one field. What was found of the field already is told. The object gets the epoch as its stamp.
+/// A change of one field: a Store where no word is told as found, and else the Cas that found it. The object gets the epoch as its stamp.
+#[inline(always)]
 pub(crate) fn apply_change<J: Judge>(
     shared: &Shared<J>,
     seat: &mut MutSeat<J>,
-    change: FieldChange,
+    obj: u32,
+    stamp: u32,
+    field: u8,
+    value: u64,
     found: Option<u64>,
 )
     requires table { IsSeatOf J.meant shared.now seat.old }
     requires fair { IsFair seat.old }
-    requires hand { HoldsFound change.obj change.stamp change.field found seat.old }
-    requires event { MayChange change.event change.obj change.stamp change.field change.value found seat.old }
-    requires field { change.field < MOST_FIELDS }
-    ensures made { MakesEvent change.event seat.old seat.new }
+    requires hand { HoldsFound obj stamp field found seat.old }
+    requires event { MayChange (event_of_change seat.old.view.gate.number obj field value found) obj stamp field value found seat.old }
+    requires field { field < MOST_FIELDS }
+    ensures made { MakesEvent (event_of_change seat.old.view.gate.number obj field value found) seat.old seat.new }
     ensures fair { IsFair seat.new }
     ensures hand { HoldsNothing seat.new }
 {
     let epoch = load_epoch(shared, seat);
-    let checks = needing_checks(shared, seat, change.stamp, epoch);
-    draw_change(shared, seat, change, found, &checks);
-    finish_change(shared, seat, change.obj, change.field, change.value, epoch);
+    draw_change(shared, seat, obj, stamp, field, value, found, epoch);
+    finish_change(shared, seat, obj, field, value, epoch);
 }
 
-/// Draws the change, and keeps the old version first where some check needs it.
+/// Draws the change. Where no check was launched since the object's stamp no lane is looked at.
+#[inline(always)]
 fn draw_change<J: Judge>(
     shared: &Shared<J>,
     seat: &mut MutSeat<J>,
-    change: FieldChange,
+    obj: u32,
+    stamp: u32,
+    field: u8,
+    value: u64,
     found: Option<u64>,
-    checks: &[u32; LANE_PLACES],
+    epoch: u32,
 )
     requires table { IsSeatOf J.meant shared.now seat.old }
     requires fair { IsFair seat.old }
-    requires hand { HoldsFound change.obj change.stamp change.field found seat.old }
-    requires event { MayChange change.event change.obj change.stamp change.field change.value found seat.old }
-    requires checks { KnowsChecks change.stamp checks.now seat.old }
-    ensures made { MakesEvent change.event seat.old seat.new }
+    requires hand { HoldsFound obj stamp field found seat.old }
+    requires event { MayChange (event_of_change seat.old.view.gate.number obj field value found) obj stamp field value found seat.old }
+    requires epoch { HasEpoch epoch seat.old }
+    ensures made { MakesEvent (event_of_change seat.old.view.gate.number obj field value found) seat.old seat.new }
     ensures fair { IsFair seat.new }
-    ensures flight { AwaitsField seat.new.view change.obj change.field change.value }
+    ensures flight { AwaitsField seat.new.view obj field value }
     ensures epoch { KeepsEpoch seat.old seat.new }
 {
-    if is_any_needed(checks, shared.sizes().lanes) {
-        draw_and_keep(shared, seat, change, found, checks);
+    if is_launched_since(stamp, epoch) {
+        draw_since_launch(shared, seat, obj, stamp, field, value, found);
     } else {
-        draw_unneeded(shared, seat, change, found, checks);
+        draw_unneeded(shared, seat, obj, stamp, field, value, found);
+    }
+}
+
+/// Draws a change of an object that was not changed since some launch, and keeps the old version first where some check needs it. It stands apart
+/// from its caller in the built program too, so that a change that no check can need stays as short as it is.
+#[inline(never)]
+fn draw_since_launch<J: Judge>(
+    shared: &Shared<J>,
+    seat: &mut MutSeat<J>,
+    obj: u32,
+    stamp: u32,
+    field: u8,
+    value: u64,
+    found: Option<u64>,
+)
+    requires table { IsSeatOf J.meant shared.now seat.old }
+    requires fair { IsFair seat.old }
+    requires hand { HoldsFound obj stamp field found seat.old }
+    requires event { MayChange (event_of_change seat.old.view.gate.number obj field value found) obj stamp field value found seat.old }
+    requires launched { HasLaunchSince stamp seat.old }
+    ensures made { MakesEvent (event_of_change seat.old.view.gate.number obj field value found) seat.old seat.new }
+    ensures fair { IsFair seat.new }
+    ensures flight { AwaitsField seat.new.view obj field value }
+    ensures epoch { KeepsEpoch seat.old seat.new }
+{
+    let checks = needing_checks(shared, seat, stamp);
+    if is_any_needed(&checks, shared.sizes().lanes) {
+        let event = change_event(seat.number(), obj, field, value, found);
+        let change = FieldChange {
+            obj,
+            stamp,
+            field,
+            value,
+            event,
+        };
+        draw_and_keep(shared, seat, change, found, &checks);
+    } else {
+        draw_unneeded(shared, seat, obj, stamp, field, value, found);
     }
 }
 

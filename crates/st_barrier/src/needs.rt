@@ -1,16 +1,15 @@
 //! Which checks need the old version of an object that changes: the active ones that were launched after its stamp.
 //!
 //! Where the epoch is not above the stamp no check was launched since, so no lane is looked at. The board stays as it is while the mutator is inside.
-ghost use Rattle.std.specs.Prelude.{◌≡◌, ◌<◌, ◌≤◌, ◌^◌, ℕ, slice_index};
-ghost use Rattle.st_layout.specs.Names.{LaneWord};
+ghost use Rattle.std.specs.Prelude.{◌≡◌, ◌<◌, ◌≤◌, nat_lt};
 ghost use Rattle.st_layout.specs.declared.limits.TheConstants.{MOST_LANES};
 ghost use Rattle.st_rule.specs.declared.views.Phase.TheVariants.{Inside};
 ghost use Rattle.st_rule.specs.Draws.{MayLoadBoard};
 ghost use Rattle.st_rule.specs.Needs.{is_any};
 ghost use Rattle.st_rule.specs.Plays.{IsBoardWord};
 ghost use Rattle.st_rule.specs.Seats.{IsSeatOf, IsFair};
-ghost use Rattle.st_barrier.specs.Hands.{StaysAs, HasEpoch, KeepsEpoch};
-ghost use Rattle.st_barrier.specs.Keeping.{LoadsPlace, LoadsNeed, HasNeed, KnowsChecks, need_of, lanes_in};
+ghost use Rattle.st_barrier.specs.Hands.{StaysAs, KeepsEpoch};
+ghost use Rattle.st_barrier.specs.Keeping.{LoadsPlace, LoadsNeed, HasLaunchSince, KnowsChecks, need_of, lanes_in};
 
 use st_events::Judge;
 use st_layout::MOST_LANES;
@@ -19,51 +18,28 @@ use st_rule::{MutSeat, Shared};
 /// As many as a table may have lanes.
 pub(crate) const LANE_PLACES: usize = MOST_LANES as usize;
 
-/// The check of each lane that needs the version with this stamp; 0 where none does.
+/// Whether some check was launched after the stamp.
+pub(crate) fn is_launched_since(stamp: u32, epoch: u32) -> bool
+    ensures { result ≡ nat_lt stamp epoch }
+{
+    stamp < epoch
+}
+
+/// Loads the word of each lane: the check of each that needs the version with this stamp, and 0 where none does.
 pub(crate) fn needing_checks<J: Judge>(
     shared: &Shared<J>,
     seat: &mut MutSeat<J>,
     stamp: u32,
-    epoch: u32,
 ) -> [u32; LANE_PLACES]
     requires table { IsSeatOf J.meant shared.now seat.old }
     requires fair { IsFair seat.old }
     requires phase { seat.old.view.gate.phase ≡ Inside }
-    requires epoch { HasEpoch epoch seat.old }
+    requires launched { HasLaunchSince stamp seat.old }
     ensures stays { StaysAs seat.old seat.new }
     ensures fair { IsFair seat.new }
     ensures hand { seat.new.view.held ≡ seat.old.view.held }
     ensures epoch { KeepsEpoch seat.old seat.new }
     ensures checks { KnowsChecks stamp result seat.new }
-{
-    if epoch <= stamp {
-        no_checks()
-    } else {
-        load_checks(shared, seat, stamp)
-    }
-}
-
-/// No lane's check needs it.
-fn no_checks() -> [u32; LANE_PLACES]
-    ensures { (lane : ℕ) → slice_index result lane ≡ 0 }
-{
-    [0; LANE_PLACES]
-}
-
-/// Loads the word of each lane.
-fn load_checks<J: Judge>(
-    shared: &Shared<J>,
-    seat: &mut MutSeat<J>,
-    stamp: u32,
-) -> [u32; LANE_PLACES]
-    requires table { IsSeatOf J.meant shared.now seat.old }
-    requires fair { IsFair seat.old }
-    requires phase { seat.old.view.gate.phase ≡ Inside }
-    ensures stays { StaysAs seat.old seat.new }
-    ensures fair { IsFair seat.new }
-    ensures hand { seat.new.view.held ≡ seat.old.view.held }
-    ensures epoch { KeepsEpoch seat.old seat.new }
-    ensures checks { (lane : ℕ) → lane < seat.new.view.terms.sizes.lanes → HasNeed stamp (slice_index result lane) lane seat.new }
 {
     let mut checks = [0; LANE_PLACES];
     for lane in 0..shared.sizes().lanes {

@@ -4,10 +4,9 @@ ghost use Rattle.st_events.specs.declared.events.Event.TheVariants.{Store};
 ghost use Rattle.st_gate.specs.Phases.{IsInside};
 ghost use Rattle.st_rule.specs.Seats.{IsSeatOf, IsFair, HoldsNothing};
 
-use crate::changes::FieldChange;
 use crate::events::apply_change;
 use crate::locking::lock;
-use st_events::{Event, Judge};
+use st_events::Judge;
 use st_gate::Inside;
 use st_rule::{MutSeat, Shared};
 use std::sync::Wait;
@@ -51,20 +50,6 @@ fn store_with<J: Judge, R: Wait>(
     ensures inside { IsInside seat.new }
     ensures hand { HoldsNothing seat.new }
 {
-    let m = seat.number();
     let stamp = lock(rt, shared, seat, obj);
-    let event = Event::Store {
-        m,
-        obj,
-        field,
-        value,
-    };
-    let change = FieldChange {
-        obj,
-        stamp,
-        field,
-        value,
-        event,
-    };
-    apply_change(shared, seat, change, None);
+    apply_change(shared, seat, obj, stamp, field, value, None);
 }

@@ -14,7 +14,7 @@ apply_change-requires-clause-hand g c = record { loaded = []; held = c.lock-stam
 
 pub apply_change-requires-clause-event : goal.apply_change-requires-clause-event
 apply_change-requires-clause-event g c =
-    may_store c.args.seat.now c.lock-stamp.new.seat c.lock-stamp.ensures.stays c.requires.inside c.requires.caller c.number-m.result c.number-m.ensures.number
+    may_store c.args.seat.now c.lock-stamp.new.seat c.lock-stamp.ensures.stays c.requires.inside c.requires.caller c.lock-stamp.new.seat.view.gate.number (ap (λ x. x.number) c.lock-stamp.ensures.stays.gate)
     c.args.obj c.lock-stamp.result c.args.field c.args.value c.requires.cell c.requires.kind
 
 pub apply_change-requires-clause-field : goal.apply_change-requires-clause-field
@@ -24,8 +24,8 @@ apply_change-requires-clause-field g c =
 
 pub returns-clause-store : goal.returns-clause-store
 returns-clause-store g c =
-    store_made c.args.seat.now c.lock-stamp.new.seat c.apply_change.new.seat c.number-m.result c.args.obj c.args.field c.args.value c.number-m.ensures.number
-    c.lock-stamp.ensures.stays c.apply_change.ensures.made
+    store_made c.args.seat.now c.lock-stamp.new.seat c.apply_change.new.seat c.lock-stamp.new.seat.view.gate.number c.args.obj c.args.field c.args.value
+    (ap (λ x. x.number) c.lock-stamp.ensures.stays.gate) c.lock-stamp.ensures.stays c.apply_change.ensures.made
 
 pub returns-clause-inside : goal.returns-clause-inside
 returns-clause-inside g c = ap (λ x. x.phase) (c.apply_change.ensures.made.gate ∙ c.lock-stamp.ensures.stays.gate) ∙ c.requires.inside

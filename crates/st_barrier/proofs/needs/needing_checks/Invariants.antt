@@ -5,7 +5,7 @@ use Rattle.st_rule.specs.declared.views.Phase.TheVariants.{Inside}
 use Rattle.st_rule.specs.Seats.{IsSeatOf, IsFair}
 use Rattle.st_barrier.specs.Hands.{StaysAs, KeepsEpoch}
 use Rattle.st_barrier.specs.Keeping.{HasNeed}
-use Rattle.st_barrier.proofs.needs.load_checks.Given as goal
+use Rattle.st_barrier.proofs.needs.needing_checks.Given as goal
 
 -- the lanes so far were loaded
 abbrev pub invariant-loop-lane : goal.invariant-loop-lane
