@@ -444,8 +444,9 @@ END_
 # The judge of the tests.
 {
     printf '//! A judge to whom no verdict is right.\n\nuse crate::Failed;\nuse st_events::{Judge, Shape};\nuse std::alloc::Global;\nuse std::marker::Model;\n\n'
-    sed -n '/^\/\/\/ A judge to whom/,/^\/\/\/ Whether the gate refuses/p' "$top/crates/st_gate/src/tests.rt" | sed -e '/^\/\/\/ Whether the gate refuses/d' \
-        -e 's/^struct Silent/pub struct Silent/' -e 's/^fn quiet_judge/pub fn quiet_judge/' -e 's/Fail> {/Failed> {/' -e 's/Err(Fail::from("the shape fits"))/Err(Failed)/'
+    sed -n '/^\/\/\/ A judge to whom/,$p' "$top/crates/st_table_rows/src/tests/judges.rt" \
+        | sed -e '/^\/\/\/ A class of one number/,/^\/\/\/ A judge of a program with no field/{/with no field/!d;}' \
+            -e 's/Fail> {/Failed> {/' -e 's/Err(Fail::from("the shape fits"))/Err(Failed)/'
 } > "$program/src/judges.rt"
 
 cd "$program"

@@ -59,7 +59,7 @@ fn take<J: Judge, R: Wait>(rt: &R, shared: &Shared<J>, seat: &mut MutSeat<J>)
 }
 
 /// Sees the flag of every other number clear, one after another.
-pub(crate) fn see_others<J: Judge, R: Wait>(rt: &R, shared: &Shared<J>, seat: &mut MutSeat<J>)
+fn see_others<J: Judge, R: Wait>(rt: &R, shared: &Shared<J>, seat: &mut MutSeat<J>)
     requires table { IsSeatOf J.meant shared.now seat.old }
     requires none { HasSeen seat.old [] }
     requires fair { IsFair seat.old }

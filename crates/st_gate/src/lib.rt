@@ -6,8 +6,6 @@ mod closing;
 mod entering;
 mod kinds;
 mod laws;
-#[cfg(test)]
-mod tests;
 
 pub use closing::{close_gate, open_gate};
 pub use entering::{enter, leave};

@@ -1,5 +1,6 @@
 //! Rows of the table of the threads.
 
 mod counting;
+mod gates;
 mod judges;
 mod seats;

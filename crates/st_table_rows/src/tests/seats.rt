@@ -12,7 +12,7 @@ use std::process::Abort;
 use std::test::Fail;
 
 /// The sizes of the rows.
-fn small_sizes() -> Sizes
+pub fn small_sizes() -> Sizes
     ensures sizes { result.mutators ≡ 2 }
     ensures fits { AreWithinLimits result }
 {

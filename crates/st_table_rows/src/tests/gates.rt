@@ -1,83 +1,23 @@
 //! The gate by one thread, and by three at once.
 ghost use Rattle.std.specs.Prelude.{◌≡◌};
 ghost use Rattle.std.specs.Thread.{IsSync};
-ghost use Rattle.st_events.specs.Sizes.{AreWithinLimits};
 ghost use Rattle.st_gate.specs.Later.{IsLater};
 ghost use Rattle.st_gate.specs.Phases.{IsOutside};
 ghost use Rattle.st_rule.specs.Named.{IsNamedSeat, IsNamedTable};
 ghost use Rattle.st_rule.specs.Rule.{first_view};
 ghost use Rattle.st_rule.specs.Seats.{IsSeatOf, sizes_of, terms_of};
 
-use crate::closing::see_others;
-use crate::{close_gate, enter, leave, open_gate};
-use st_events::{Judge, Shape, Sizes};
+use super::judges::quiet_judge;
+use super::seats::small_sizes;
+use st_events::Judge;
+use st_gate::{close_gate, enter, leave, open_gate};
 use st_rule::{MutSeat, Naming, Shared};
 use std::alloc::Global;
-use std::marker::{Brand, Model, PhantomData};
+use std::marker::{Brand, PhantomData};
 use std::sync::atomic::{AtomicU64, Ordering};
 use std::sync::{Mutex, Wait};
 use std::test::Fail;
 use std::thread::{Threads, join};
-
-/// A judge to whom no verdict is right.
-#[derive(Drop)]
-struct Silent {
-    shape: Shape,
-}
-
-impl Model for Silent {
-    ghost use Rattle.st_events.specs.Shape.{ShapeLists, IsWithinLimits};
-
-    ghost Value = { ShapeLists };
-
-    ghost view = { λ judge. judge.shape };
-
-    ghost invariant = { λ judge. IsWithinLimits judge.shape };
-}
-
-impl Judge for Silent {
-    ghost meant = { λ shape. shape };
-
-    ghost right = { λ shape sizes es number verdict. ⊥ };
-
-    ghost laws = { λ shape limits. record {
-      launched = λ sizes es number verdict right. absurd right;
-      stays = λ sizes es fs number verdict legal right. absurd right;
-    } };
-
-    fn shape(&self) -> &Shape {
-        &self.shape
-    }
-}
-
-/// A judge of a program with no field and no check.
-fn quiet_judge(alloc: Global) -> Result<Silent, Fail> {
-    let mut classes = Vec::new(alloc);
-    classes.push(Vec::new(alloc))?;
-    let shape = Shape {
-        classes,
-        checks: Vec::new(alloc),
-    };
-    if !shape.fits() {
-        return Err(Fail::from("the shape fits"));
-    }
-    Ok(Silent { shape })
-}
-
-/// Whether the gate refuses a closer. Where it does not, it is opened again.
-fn refuses<J: Judge, R: Wait>(rt: &R, shared: &Shared<J>, seat: &mut MutSeat<J>) -> bool
-    requires table { IsSeatOf J.meant shared.now seat.old }
-    requires phase { IsOutside seat.old }
-    ensures later { IsLater seat.old seat.new }
-    ensures phase { IsOutside seat.new }
-{
-    if !shared.take_gate(seat) {
-        return true;
-    }
-    see_others(rt, shared, seat);
-    shared.give_gate(seat);
-    false
-}
 
 /// Goes in and out so many times. While it is inside it is counted.
 fn visit<J: Judge, R: Wait>(
@@ -168,30 +108,26 @@ fn crowd<J: Judge + Sync + Send, R: Threads + Wait + Sync>(
     Ok(met)
 }
 
-/// The table of two mutators and the main thread.
-fn sizes_of_two() -> Sizes
-    ensures sizes { result.mutators ≡ 2 }
-    ensures fits { AreWithinLimits result }
-{
-    Sizes {
-        mutators: 2,
-        lanes: 2,
-        objects: 4,
-        copies: 3,
-        events: 10,
-        calls: 0,
-    }
-}
-
 #[test]
 fn nobody_is_inside_while_a_third_is_alone(rt: HostRuntime) -> Result<(), Fail> {
     let judge = quiet_judge(rt.alloc())?;
-    let (shared, main) = Shared::make(rt.alloc(), &judge, &sizes_of_two())?;
+    let (shared, main) = Shared::make(rt.alloc(), &judge, &small_sizes())?;
     assert_eq!(rt; crowd(&rt, rt.alloc(), shared, main)?, 0);
     Ok(())
 }
 
-/// Whether the gate refuses a second closer while it is closed, and after it was opened.
+/// Closes the gate, which no other thread does, and opens it.
+fn close_and_open<J: Judge, R: Wait>(rt: &R, shared: &Shared<J>, seat: MutSeat<J>) -> MutSeat<J>
+    requires table { IsSeatOf J.meant shared.now seat }
+    requires phase { IsOutside seat }
+    ensures later { IsLater seat result }
+    ensures phase { IsOutside result }
+{
+    let alone = close_gate(rt, shared, seat);
+    open_gate(shared, alone)
+}
+
+/// Whether a second closer, who has closed the gate alone before, gets it while it is closed, and once it is open.
 fn second_closer<J: Judge, R: Wait>(
     rt: &R,
     alloc: Global,
@@ -202,22 +138,25 @@ fn second_closer<J: Judge, R: Wait>(
     requires first { main.view ≡ first_view (terms_of J.meant shared) }
     requires mutators { (sizes_of shared).mutators ≡ 2 }
 {
-    let mut one = shared.split_mut(alloc, &mut main, 0)?;
+    let one = shared.split_mut(alloc, &mut main, 0)?;
+    let mut one = close_and_open(rt, &shared, one);
     let alone = close_gate(rt, &shared, main);
-    let closed = refuses(rt, &shared, &mut one);
-    let mut main = open_gate(&shared, alone);
-    let opened = refuses(rt, &shared, &mut one);
-    shared.join_mut(&mut main, one);
-    shared.close(main);
-    Ok((closed, opened))
+    let while_closed = shared.take_gate(&mut one);
+    open_gate(&shared, alone);
+    // Only who is outside may ask for the gate.
+    if while_closed {
+        return Ok((true, false));
+    }
+    let once_open = shared.take_gate(&mut one);
+    Ok((false, once_open))
 }
 
 #[test]
 fn a_closed_gate_refuses_a_second_closer(rt: HostRuntime) -> Result<(), Fail> {
     let judge = quiet_judge(rt.alloc())?;
-    let (shared, main) = Shared::make(rt.alloc(), &judge, &sizes_of_two())?;
-    let (closed, opened) = second_closer(&rt, rt.alloc(), shared, main)?;
-    assert!(rt; closed && !opened);
+    let (shared, main) = Shared::make(rt.alloc(), &judge, &small_sizes())?;
+    let (while_closed, once_open) = second_closer(&rt, rt.alloc(), shared, main)?;
+    assert!(rt; !while_closed && once_open);
     Ok(())
 }
 
@@ -267,7 +206,7 @@ fn look_at<J: Judge, R: Wait>(rt: &R, shared: &Shared<J>, seat: MutSeat<J>) -> u
 #[test]
 fn a_seat_behind_a_lock_is_of_the_named_table(rt: HostRuntime) -> Result<(), Fail> {
     let judge = quiet_judge(rt.alloc())?;
-    let (shared, main) = Shared::make(rt.alloc(), &judge, &sizes_of_two())?;
+    let (shared, main) = Shared::make(rt.alloc(), &judge, &small_sizes())?;
     assert_eq!(rt; look_at(&rt, &shared, main), 0);
     Ok(())
 }

@@ -1,7 +1,7 @@
 use Rattle.st_rule.specs.Seats.{IsSeatOf}
 use Rattle.st_gate.specs.Later.{IsLater}
 use Rattle.st_gate.specs.Phases.{IsOutside}
-use Rattle.st_gate.proofs.tests.visit_alone.Given as goal
+use Rattle.st_table_rows.proofs.tests.gates.visit.Given as goal
 
 -- between two visits the seat is outside
 abbrev pub invariant-loop : goal.invariant-loop

@@ -1,6 +1,6 @@
 use Rattle.std.proofs.Common.{Some}
 use Rattle.st_rule.specs.Seats.{table_of, judge_of, sizes_of}
-use Rattle.st_gate.proofs.tests.look_at.Given as goal
+use Rattle.st_table_rows.proofs.tests.gates.look_at.Given as goal
 
 -- the table that is handed in
 abbrev pub ghosts-look_behind_a_lock : goal.ghosts-look_behind_a_lock
