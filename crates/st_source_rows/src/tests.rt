@@ -1,4 +1,5 @@
 //! Worked rows over texts.
 
 mod parses;
+mod rules;
 mod sources;

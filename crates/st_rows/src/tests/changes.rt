@@ -22,7 +22,15 @@ const FEW: Amounts = Amounts {
 /// The place of the event or verdict that was changed, and what an audit finds then, where it must find something else.
 type Other = (usize, Option<Finding>);
 
-/// What an audit finds of a run of `FOUR`.
+/// A run of `FOUR`: its program, and what it leaves.
+#[derive(Clone, Copy)]
+struct Run<'a> {
+    typed: &'a Typed,
+    events: &'a [Event],
+    verdicts: &'a [Verdict],
+}
+
+/// What an audit finds of events and verdicts, against the program of `FOUR`.
 fn find(
     alloc: Global,
     typed: &Typed,
@@ -170,15 +178,10 @@ fn with_verdict(
 }
 
 /// The first place at which an impossible event is not found.
-fn other_impossible(
-    alloc: Global,
-    typed: &Typed,
-    events: &[Event],
-    verdicts: &[Verdict],
-) -> Result<Option<Other>, Unrun> {
-    for place in 0..events.len() {
-        let changed = with_event(alloc, events, place, impossible(events[place]))?;
-        let found = find(alloc, typed, &changed, verdicts)?;
+fn other_impossible(alloc: Global, run: &Run<'_>) -> Result<Option<Other>, Unrun> {
+    for place in 0..run.events.len() {
+        let changed = with_event(alloc, run.events, place, impossible(run.events[place]))?;
+        let found = find(alloc, run.typed, &changed, run.verdicts)?;
         let wanted = Some(Finding::NotLegal {
             place: u32::try_from(place).unwrap_or(u32::MAX),
         });
@@ -190,19 +193,15 @@ fn other_impossible(
 }
 
 /// The first place at which another event that is legal is not found.
-fn other_exchanged(
-    alloc: Global,
-    typed: &Typed,
-    events: &[Event],
-    verdicts: &[Verdict],
-) -> Result<Option<Other>, Unrun> {
-    for place in 0..events.len() {
-        let (Some(thread), Some(event)) = (thread_of(events[place]), another(events[place])) else {
+fn other_exchanged(alloc: Global, run: &Run<'_>) -> Result<Option<Other>, Unrun> {
+    for place in 0..run.events.len() {
+        let event = run.events[place];
+        let (Some(thread), Some(other)) = (thread_of(event), another(event)) else {
             continue;
         };
-        let changed = with_event(alloc, events, place, event)?;
-        let found = find(alloc, typed, &changed, verdicts)?;
-        if found != differs_after(&events[..place], thread) {
+        let changed = with_event(alloc, run.events, place, other)?;
+        let found = find(alloc, run.typed, &changed, run.verdicts)?;
+        if found != differs_after(&run.events[..place], thread) {
             return Ok(Some((place, found)));
         }
     }
@@ -210,22 +209,17 @@ fn other_exchanged(
 }
 
 /// The first place at which it is not found that an event is left out.
-fn other_left_out(
-    alloc: Global,
-    typed: &Typed,
-    events: &[Event],
-    verdicts: &[Verdict],
-) -> Result<Option<Other>, Unrun> {
-    for place in 0..events.len() {
-        let Some(thread) = thread_of(events[place]) else {
+fn other_left_out(alloc: Global, run: &Run<'_>) -> Result<Option<Other>, Unrun> {
+    for place in 0..run.events.len() {
+        let Some(thread) = thread_of(run.events[place]) else {
             continue;
         };
-        if !can_be_left_out(events[place]) {
+        if !can_be_left_out(run.events[place]) {
             continue;
         }
-        let changed = without_event(alloc, events, place)?;
-        let found = find(alloc, typed, &changed, verdicts)?;
-        if found != differs_after(&events[..place], thread) {
+        let changed = without_event(alloc, run.events, place)?;
+        let found = find(alloc, run.typed, &changed, run.verdicts)?;
+        if found != differs_after(&run.events[..place], thread) {
             return Ok(Some((place, found)));
         }
     }
@@ -233,17 +227,12 @@ fn other_left_out(
 }
 
 /// The thread whose event behind its end, which is legal after all others, is not found.
-fn other_end(
-    alloc: Global,
-    typed: &Typed,
-    events: &[Event],
-    verdicts: &[Verdict],
-) -> Result<Option<Other>, Unrun> {
+fn other_end(alloc: Global, run: &Run<'_>) -> Result<Option<Other>, Unrun> {
     for thread in 0..2 {
-        let longer = with_end(alloc, events, store_by(thread, 1, 1, 0))?;
-        let found = find(alloc, typed, &longer, verdicts)?;
-        if found != differs_after(events, thread) {
-            return Ok(Some((events.len(), found)));
+        let longer = with_end(alloc, run.events, store_by(thread, 1, 1, 0))?;
+        let found = find(alloc, run.typed, &longer, run.verdicts)?;
+        if found != differs_after(run.events, thread) {
+            return Ok(Some((run.events.len(), found)));
         }
     }
     Ok(None)
@@ -267,20 +256,15 @@ fn plain_of(found: Option<Finding>, of: usize) -> Option<Plain> {
 }
 
 /// The first verdict that is not found where it is wrong, or in whose place the plain value that is told is not right.
-fn other_verdict(
-    alloc: Global,
-    typed: &Typed,
-    events: &[Event],
-    verdicts: &[Verdict],
-) -> Result<Option<Other>, Unrun> {
-    for place in 0..verdicts.len() {
-        let wrong = with_verdict(alloc, verdicts, place, wrong_for(verdicts[place]))?;
-        let found = find(alloc, typed, events, &wrong)?;
+fn other_verdict(alloc: Global, run: &Run<'_>) -> Result<Option<Other>, Unrun> {
+    for place in 0..run.verdicts.len() {
+        let wrong = with_verdict(alloc, run.verdicts, place, wrong_for(run.verdicts[place]))?;
+        let found = find(alloc, run.typed, run.events, &wrong)?;
         let Some(plain) = plain_of(found, place + 1) else {
             return Ok(Some((place, found)));
         };
-        let right = with_verdict(alloc, verdicts, place, Verdict::Plain(plain))?;
-        let found = find(alloc, typed, events, &right)?;
+        let right = with_verdict(alloc, run.verdicts, place, Verdict::Plain(plain))?;
+        let found = find(alloc, run.typed, run.events, &right)?;
         if found.is_some() {
             return Ok(Some((place, found)));
         }
@@ -289,28 +273,28 @@ fn other_verdict(
 }
 
 /// Where an audit of the run, as it is or with one thing changed, finds something else than it must.
-fn other_of(
-    alloc: Global,
-    typed: &Typed,
-    events: &[Event],
-    verdicts: &[Verdict],
-) -> Result<Option<Other>, Unrun> {
-    let found = find(alloc, typed, events, verdicts)?;
+fn other_of(alloc: Global, run: &Run<'_>) -> Result<Option<Other>, Unrun> {
+    let found = find(alloc, run.typed, run.events, run.verdicts)?;
     if found.is_some() {
         return Ok(Some((0, found)));
     }
-    let impossible = other_impossible(alloc, typed, events, verdicts)?;
-    let exchanged = other_exchanged(alloc, typed, events, verdicts)?;
-    let left_out = other_left_out(alloc, typed, events, verdicts)?;
-    let end = other_end(alloc, typed, events, verdicts)?;
-    let verdict = other_verdict(alloc, typed, events, verdicts)?;
+    let impossible = other_impossible(alloc, run)?;
+    let exchanged = other_exchanged(alloc, run)?;
+    let left_out = other_left_out(alloc, run)?;
+    let end = other_end(alloc, run)?;
+    let verdict = other_verdict(alloc, run)?;
     Ok(impossible.or(exchanged).or(left_out).or(end).or(verdict))
 }
 
 /// The same of the run by the seed.
 fn other_by_seed(alloc: Global, typed: &Typed, seed: u64) -> Result<Option<Other>, Unrun> {
     let ran = run_text(alloc, FOUR, FEW, seed)?;
-    other_of(alloc, typed, &ran.journal, &ran.verdicts)
+    let run = Run {
+        typed,
+        events: ran.journal.as_slice(),
+        verdicts: ran.verdicts.as_slice(),
+    };
+    other_of(alloc, &run)
 }
 
 #[test]

@@ -11,6 +11,9 @@ const USUAL: Amounts = Amounts::USUAL;
 
 const SPENT: Verdict = Verdict::Plain(Plain::Spent);
 
+/// The end of one thread that does all its statements.
+const FINISHED: [End; 1] = [End::Finished];
+
 /// A text, what a run of it may use, how many seeds it is run by, the events that are no Retire in their order, the verdicts, the ends, and
 /// how many copies are free.
 type Row<'a> = (
@@ -22,6 +25,9 @@ type Row<'a> = (
     &'a [End],
     u32,
 );
+
+/// The place of a row, from 0, the first seed at which something is wrong, and what.
+type Other = (usize, u64, Wrong);
 
 /// What is not as it must be.
 #[derive(Clone, Copy, Debug, PartialEq, Eq)]
@@ -91,6 +97,17 @@ fn find_wrong(alloc: Global, row: Row<'_>) -> Option<(u64, Wrong)> {
     None
 }
 
+/// The first row of which something is wrong.
+fn first_wrong(alloc: Global, rows: &[Row<'_>]) -> Option<Other> {
+    for place in 0..rows.len() {
+        match find_wrong(alloc, rows[place]) {
+            Some((seed, wrong)) => return Some((place, seed, wrong)),
+            None => {}
+        }
+    }
+    None
+}
+
 /// Whether the run by seed 0 leaves this journal, event for event.
 fn wrong_journal(alloc: Global, text: &[u8], amounts: Amounts, journal: &[Event]) -> Option<Wrong> {
     match run_text(alloc, text, amounts, 0) {
@@ -101,7 +118,7 @@ fn wrong_journal(alloc: Global, text: &[u8], amounts: Amounts, journal: &[Event]
 }
 
 #[test]
-fn runs_leave_what_their_rows_say(rt: HostRuntime) -> Result<(), Fail> {
+fn a_check_has_its_budget_of_calls(rt: HostRuntime) -> Result<(), Fail> {
     let list = [
         new(2),
         store(2, 0, 3),
@@ -115,82 +132,79 @@ fn runs_leave_what_their_rows_say(rt: HostRuntime) -> Result<(), Fail> {
         store(4, 0, 9),
         launch(2, 1, one(4)),
     ];
+    let three = Amounts { calls: 3, ..USUAL };
+    let two = Amounts { calls: 2, ..USUAL };
+    let rows: [Row<'_>; 3] = [
+        (LIST, USUAL, 20, &list, &[HOLDS, FAILS], &FINISHED, 4096),
+        (LIST, three, 20, &list, &[HOLDS, FAILS], &FINISHED, 4096),
+        (LIST, two, 20, &list, &[SPENT, FAILS], &FINISHED, 4096),
+    ];
+    assert_eq!(rt; first_wrong(rt.alloc(), &rows), None);
+    Ok(())
+}
+
+#[test]
+fn a_version_is_lost_without_copies_and_kept_with_24(rt: HostRuntime) -> Result<(), Fail> {
     let lost = [
         launch(1, 0, NONE),
         store(1, 0, 1),
         new(2),
         launch(2, 1, one(2)),
     ];
+    let none = Amounts { copies: 0, ..USUAL };
+    let enough = Amounts {
+        copies: 24,
+        ..USUAL
+    };
+    let abandoned = Verdict::Abandoned { obj: 1 };
+    let rows: [Row<'_>; 2] = [
+        (LOST, none, 1, &lost, &[abandoned, HOLDS], &FINISHED, 0),
+        (LOST, enough, 50, &lost, &[HOLDS, HOLDS], &FINISHED, 24),
+    ];
+    assert_eq!(rt; first_wrong(rt.alloc(), &rows), None);
+    Ok(())
+}
+
+#[test]
+fn a_verdict_may_be_a_fault_or_deep(rt: HostRuntime) -> Result<(), Fail> {
     let faults = [launch(1, 0, one(0)), launch(2, 1, NONE), launch(3, 2, NONE)];
     let fault_verdicts = [
         Verdict::Plain(Plain::Null(at(4, 10))),
         Verdict::Plain(Plain::Divide(at(5, 11))),
         Verdict::Plain(Plain::Overflow(at(6, 39))),
     ];
-    let finished = [End::Finished];
-    let none = Amounts { copies: 0, ..USUAL };
-    let enough = Amounts {
-        copies: 24,
-        ..USUAL
-    };
-    let three_calls = Amounts { calls: 3, ..USUAL };
-    let two_calls = Amounts { calls: 2, ..USUAL };
+    let down = [launch(1, 0, NONE), launch(2, 1, NONE)];
+    let deep = Verdict::Plain(Plain::Deep);
+    let rows: [Row<'_>; 2] = [
+        (FAULTS, USUAL, 20, &faults, &fault_verdicts, &FINISHED, 4096),
+        (DOWN, USUAL, 1, &down, &[HOLDS, deep], &FINISHED, 4096),
+    ];
+    assert_eq!(rt; first_wrong(rt.alloc(), &rows), None);
+    Ok(())
+}
+
+#[test]
+fn each_thread_has_its_end(rt: HostRuntime) -> Result<(), Fail> {
+    let finished_and_null = [End::Finished, End::Null(at(4, 32))];
+    let full = [End::HeapFull(at(5, 16))];
+    let deep = [End::ProcDeep(at(1, 12))];
     let two_objects = Amounts {
         objects: 2,
         ..USUAL
     };
     let five_events = Amounts { events: 5, ..USUAL };
-    let rows: [Row<'_>; 12] = [
+    let rows: [Row<'_>; 5] = [
         (b"", USUAL, 20, &[], &[], &[], 4096),
-        (LIST, USUAL, 20, &list, &[HOLDS, FAILS], &finished, 4096),
-        (
-            LIST,
-            three_calls,
-            20,
-            &list,
-            &[HOLDS, FAILS],
-            &finished,
-            4096,
-        ),
-        (LIST, two_calls, 20, &list, &[SPENT, FAILS], &finished, 4096),
-        (
-            LOST,
-            none,
-            1,
-            &lost,
-            &[Verdict::Abandoned { obj: 1 }, HOLDS],
-            &finished,
-            0,
-        ),
-        (LOST, enough, 50, &lost, &[HOLDS, HOLDS], &finished, 24),
-        (FAULTS, USUAL, 20, &faults, &fault_verdicts, &finished, 4096),
-        (
-            DOWN,
-            USUAL,
-            1,
-            &[launch(1, 0, NONE), launch(2, 1, NONE)],
-            &[HOLDS, Verdict::Plain(Plain::Deep)],
-            &finished,
-            4096,
-        ),
         (
             NULL,
             USUAL,
             50,
             &[launch(1, 0, NONE)],
             &[HOLDS],
-            &[End::Finished, End::Null(at(4, 32))],
+            &finished_and_null,
             4096,
         ),
-        (
-            THREE,
-            two_objects,
-            20,
-            &[new(2), new(3)],
-            &[],
-            &[End::HeapFull(at(5, 16))],
-            4096,
-        ),
+        (THREE, two_objects, 20, &[new(2), new(3)], &[], &full, 4096),
         (
             ENDLESS,
             five_events,
@@ -200,11 +214,9 @@ fn runs_leave_what_their_rows_say(rt: HostRuntime) -> Result<(), Fail> {
             &[End::EventsSpent],
             4096,
         ),
-        (DEEP, USUAL, 20, &[], &[], &[End::ProcDeep(at(1, 12))], 4096),
+        (DEEP, USUAL, 20, &[], &[], &deep, 4096),
     ];
-    for place in 0..rows.len() {
-        assert_eq!(rt; find_wrong(rt.alloc(), rows[place]), None, "row {place}");
-    }
+    assert_eq!(rt; first_wrong(rt.alloc(), &rows), None);
     Ok(())
 }
 
