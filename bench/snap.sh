@@ -16,7 +16,6 @@ cat > "$program/src/plain.rt" <<'END_'
 
 use crate::Work;
 use st_events::NoMemory;
-use st_snap_driver::Refused;
 use std::alloc::Global;
 
 #[derive(Drop)]
@@ -31,7 +30,7 @@ fn zeros(alloc: Global, count: usize) -> Result<Vec<u64>, NoMemory> {
 
 impl Plain {
     /// For objects of numbers below `objects`.
-    pub fn make(alloc: Global, objects: u32, width: u8) -> Result<Plain, Refused> {
+    pub fn make(alloc: Global, objects: u32, width: u8) -> Result<Plain, NoMemory> {
         let words = zeros(alloc, objects as usize * width as usize)?;
         Ok(Plain { words, width })
     }
@@ -111,6 +110,12 @@ pub struct Failed;
 
 impl From<Refused> for Failed {
     fn from(_refused: Refused) -> Failed {
+        Failed
+    }
+}
+
+impl From<st_snap_driver::Failed> for Failed {
+    fn from(_failed: st_snap_driver::Failed) -> Failed {
         Failed
     }
 }

@@ -1,6 +1,6 @@
 -- The tests' heaps over one more event
-use Rattle.std.proofs.Common.{◌≡◌, ◌≢◌, ℕ, zero, suc, ◌<◌, Bool, true, false, List, [], ◌∷◌, ◌++◌, length, map, replicate, slice_get, Option}
-use Rattle.std.proofs.Common.{Some, None, refl, sym, ap, subst, arith, IsSome, take, drop, get_or, cond}
+use Rattle.std.proofs.Common.{◌≡◌, ◌≢◌, ℕ, zero, suc, ◌<◌, true, List, [], ◌∷◌, ◌++◌, length, map, replicate, slice_get, Option}
+use Rattle.std.proofs.Common.{Some, None, refl, sym, ap, subst, arith, IsSome, take, drop, get_or}
 use Rattle.std.specs.List.{All, remove}
 use Rattle.std.proofs.lemmas.List.Quantifiers.{all_pairs_push, all_pairs_remove}
 use Rattle.std.proofs.lemmas.List.{length-map, length-replicate}
@@ -118,26 +118,6 @@ pub driven_with_all_lanes :
     → ((lane : Lane) → IsLaneOf s lane → IsLaneOf s' lane)
     → IsDriven s' sizes width known held
 driven_with_all_lanes s s' e sizes width known held d same legal stay = driven_with_held_lanes s s' e sizes width known held d same legal (λ k lane lt is. stay (get_or held k lane) is)
-
--- a list that grew by one, or did not
-pub driven_with_pushed :
-    (s : Snapshots) (sizes : Sizes) (width : ℕ) (known : List (ℕ × ℕ)) (held items : List Lane) (lane : Lane) (b : Bool)
-    → IsDriven s sizes width known held
-    → IsDriven s sizes width known (held ++ lane ∷ [])
-    → items ≡ cond b (held ++ lane ∷ []) held
-    → IsDriven s sizes width known items
-driven_with_pushed s sizes width known held items lane true d more e = subst (λ (x : List Lane). IsDriven s sizes width known x) (sym e) more
-driven_with_pushed s sizes width known held items lane false d more e = subst (λ (x : List Lane). IsDriven s sizes width known x) (sym e) d
-
--- the same of the known objects
-pub driven_with_known :
-    (s : Snapshots) (sizes : Sizes) (width : ℕ) (known items : List (ℕ × ℕ)) (held : List Lane) (object : ℕ × ℕ) (b : Bool)
-    → IsDriven s sizes width known held
-    → IsDriven s sizes width (known ++ object ∷ []) held
-    → items ≡ cond b (known ++ object ∷ []) known
-    → IsDriven s sizes width items held
-driven_with_known s sizes width known items held object true d more e = subst (λ (x : List (ℕ × ℕ)). IsDriven s sizes width x held) (sym e) more
-driven_with_known s sizes width known items held object false d more e = subst (λ (x : List (ℕ × ℕ)). IsDriven s sizes width x held) (sym e) d
 
 -- a list without a length is empty
 pub no_length_is_empty : {X : Type 0} (xs : List X) → length xs ≡ 0 → xs ≡ []

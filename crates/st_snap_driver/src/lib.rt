@@ -5,4 +5,4 @@ mod driver;
 #[cfg(test)]
 mod tests;
 
-pub use driver::{Driven, Refused};
+pub use driver::{Driven, Failed, Refused};

@@ -1,15 +1,19 @@
 //! Passes over all objects, or many launches: what a call asks is tested once, before the loop.
 
-use super::{Driven, NO_ARGS, Refused};
+ghost use Rattle.std.specs.Prelude.{◌≡◌};
+
+use super::{Driven, Failed, NO_ARGS, Refused};
 
 impl Driven {
     /// Each object and how many fields it has; the shared object comes first.
-    pub fn objects(&self) -> &[(u32, u8)] {
+    pub fn objects(&self) -> &[(u32, u8)]
+        ensures { result.now ≡ self.now.objects }
+    {
         self.objects.as_slice()
     }
 
     /// Mutator `m` makes so many objects.
-    pub fn fill(&mut self, m: u8, objects: u32) -> Result<(), Refused> {
+    pub fn fill(&mut self, m: u8, objects: u32) -> Result<(), Failed> {
         for _ in 0..objects {
             self.new(m)?;
         }
@@ -17,7 +21,7 @@ impl Driven {
     }
 
     /// Mutator 0 launches so many checks.
-    pub fn launch_many(&mut self, count: u32) -> Result<(), Refused> {
+    pub fn launch_many(&mut self, count: u32) -> Result<(), Failed> {
         for _ in 0..count {
             self.launch(0)?;
         }

@@ -1,12 +1,12 @@
 //! The long row: many objects, rounds, stores and reads. It ends in time only where a step takes no longer as the journal grows.
 
-use crate::{Driven, Refused};
+use crate::{Driven, Failed, Refused};
 use st_events::Sizes;
 use std::test::Fail;
 
 impl Driven {
     /// A check reads the word from before the store that follows its launch, in a copy that its retire gives back.
-    fn round(&mut self, k: u64) -> Result<bool, Refused> {
+    fn round(&mut self, k: u64) -> Result<bool, Failed> {
         self.launch(0)?;
         self.store(0, 1, 0, k)?;
         let right = self.reads(0, 1, k.saturating_sub(1))? && self.free() == 3;
@@ -14,7 +14,7 @@ impl Driven {
         Ok(right && self.free() == 4)
     }
 
-    fn rounds(&mut self, count: u64) -> Result<bool, Refused> {
+    fn rounds(&mut self, count: u64) -> Result<bool, Failed> {
         for k in 0..count {
             if !self.round(k + 1)? {
                 return Ok(false);
@@ -40,7 +40,7 @@ impl Driven {
     }
 
     /// Every mutator makes all its objects; 200,000 rounds; then one check, 300,000 stores and 300,000 reads.
-    fn plays_long(&mut self) -> Result<bool, Refused> {
+    fn plays_long(&mut self) -> Result<bool, Failed> {
         for m in 0..8 {
             self.fill(m, 16_384)?;
         }

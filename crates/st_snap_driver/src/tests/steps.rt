@@ -1,6 +1,6 @@
 //! The steps of a row: what is called, and what it is to give.
 
-use crate::{Driven, Refused};
+use crate::{Driven, Failed, Refused};
 
 /// One call, and what it is to give. Objects and checks are named by the order in which they came.
 #[derive(Clone, Copy, Debug)]
@@ -48,7 +48,7 @@ pub(super) enum Step {
 
 impl Driven {
     /// Makes the call, of mutator 0 and in field 0, and answers whether it gave what it was to give.
-    fn plays(&mut self, step: Step) -> Result<bool, Refused> {
+    fn plays(&mut self, step: Step) -> Result<bool, Failed> {
         match step {
             Step::New { gives } => Ok(self.new(0)? == gives),
             Step::Load { object, gives } => Ok(self.load(0, object, 0)? == gives),
@@ -67,12 +67,12 @@ impl Driven {
                 check,
                 object,
                 gives,
-            } => self.reads(check, object, gives),
+            } => Ok(self.reads(check, object, gives)?),
             Step::Lost {
                 check,
                 object,
                 gives,
-            } => self.loses(check, object, gives),
+            } => Ok(self.loses(check, object, gives)?),
             Step::Retire { check } => {
                 self.retire(0, check)?;
                 Ok(true)
@@ -97,7 +97,7 @@ impl Driven {
     }
 
     /// Makes the calls in order, up to the first that gives something else; whether there is none.
-    pub(super) fn plays_all(&mut self, steps: &[Step]) -> Result<bool, Refused> {
+    pub(super) fn plays_all(&mut self, steps: &[Step]) -> Result<bool, Failed> {
         for step in steps {
             if !self.plays(*step)? {
                 return Ok(false);
