@@ -8,12 +8,12 @@
 # Run it at any place of the repository:  sh bench/audit.sh
 . "$(dirname "$0")/scratch.sh"
 
-crates='st_events st_program st_meaning st_eval st_threads st_mutator st_lex st_grammar st_ast st_syntax st_counts st_reading st_parse st_types st_bounds st_texts st_source st_audit'
+crates='st_events st_resolved st_check_meaning st_eval st_thread_meaning st_mutator st_lex st_charts st_ast st_grammar st_grammar_laws st_parse st_types st_limit_laws st_texts st_source st_audit'
 copy $crates
 for crate in $crates; do
     grep -E "^$crate( [a-z_=0-9]+)*:" "$top/crates.txt" >> "$scratch/crates.txt"
 done
-echo 'auditbench: st_events st_program st_meaning st_threads st_eval st_mutator st_lex st_ast st_types st_source st_audit anyhow' >> "$scratch/crates.txt"
+echo 'auditbench: st_events st_resolved st_check_meaning st_thread_meaning st_eval st_mutator st_lex st_ast st_types st_source st_audit anyhow' >> "$scratch/crates.txt"
 program=$scratch/crates/auditbench
 mkdir -p "$program/src"
 
@@ -281,8 +281,8 @@ END_
 mkdir -p "$program/proofs/journals/Writer/write_thread"
 cat > "$program/proofs/journals/Writer/write_thread/Answers.antt" <<'END_'
 use Rattle.std.proofs.Common.{sym, subst}
-use Rattle.st_program.specs.declared.programs.Resolved.{Resolved}
-use Rattle.st_program.specs.Views.{program_of}
+use Rattle.st_resolved.specs.declared.programs.Resolved.{Resolved}
+use Rattle.st_resolved.specs.Views.{program_of}
 use Rattle.st_mutator.specs.Mutators.{HasFewLocals}
 use Rattle.st_mutator.proofs.FewLemmas.{well_formed_has_few_locals}
 use Rattle.auditbench.proofs.journals.Writer.write_thread.Goals as goal

@@ -849,7 +849,7 @@ fn main(rt: HostRuntime) -> Result<(), Failed> {
 END_
 
 # The judge of the tests, which stand in another place in older states.
-judges="$top/crates/st_table_rows/src/tests/judges.rt"
+judges="$top/crates/tests_table/src/tests/judges.rt"
 [ -f "$judges" ] || judges="$top/crates/st_barrier/src/tests.rt"
 {
     printf '//! A judge to whom no verdict is right.\nghost use Rattle.std.specs.Prelude.{IfOk};\nghost use Rattle.st_barrier.specs.Counting.{HasNumbers};\n\n'

@@ -1,14 +1,14 @@
 #!/bin/sh
 # Times the evaluator of checks beside plain recursive functions over the same vector of words, outside the merge gate.
-# Makes a scratch repository of st_events, st_program, st_meaning, st_eval and a small program, proves and builds the program (LLVM), and prints for each
+# Makes a scratch repository of st_events, st_resolved, st_check_meaning, st_eval and a small program, proves and builds the program (LLVM), and prints for each
 # check the reads a second of the evaluator and of the plain function, by the best of 15 passes, and the ratio of the times; then how much memory
 # `make` asks for at a large program.
 # The lists are 25 of 4,000 nodes: a longer one would be Deep, since each node is a call and 4,096 may be open.
 # Run it at any place of the repository:  sh bench/eval.sh
 . "$(dirname "$0")/scratch.sh"
 
-copy st_events st_program st_meaning st_eval
-printf 'st_events:\nst_program: st_events sqlite_items\nst_meaning: st_events st_program\nst_eval: st_events st_program st_meaning sqlite_items\nevalbench: st_events st_program st_eval anyhow\n' > "$scratch/crates.txt"
+copy st_events st_resolved st_check_meaning st_eval
+printf 'st_events:\nst_program: st_events sqlite_items\nst_meaning: st_events st_resolved\nst_eval: st_events st_resolved st_check_meaning sqlite_items\nevalbench: st_events st_resolved st_eval anyhow\n' > "$scratch/crates.txt"
 program=$scratch/crates/evalbench
 mkdir -p "$program/src"
 
@@ -16,7 +16,7 @@ cat > "$program/src/programs.rt" <<'END_'
 //! The programs whose checks are timed.
 
 use st_events::{Kind, Site};
-use st_program::{Boxed, Check, Expr, Items, Operator, Pred, Resolved};
+use st_resolved::{Boxed, Check, Expr, Items, Operator, Pred, Resolved};
 use std::alloc::{AllocError, Global};
 
 const HERE: Site = Site { line: 1, column: 1 };
@@ -235,13 +235,13 @@ END_
 cat > "$program/src/evaluating.rt" <<'END_'
 //! A program with an evaluator that was made for it.
 ghost use Rattle.std.specs.Prelude.{IfOk};
-ghost use Rattle.st_program.specs.Views.{program_of};
+ghost use Rattle.st_resolved.specs.Views.{program_of};
 ghost use Rattle.st_eval.specs.Evaluations.{IsMadeFor};
 
 use crate::plain::word;
 use st_eval::{Ask, Eval};
 use st_events::{Args, Plain};
-use st_program::Resolved;
+use st_resolved::Resolved;
 use std::alloc::{AllocError, Global};
 
 /// How many cells were read, and whether each check held.
@@ -297,7 +297,7 @@ END_
 cat > "$program/src/main.rt" <<'END_'
 //! Times checks by the evaluator and by plain functions.
 #![tactic(auto)]
-ghost use Rattle.st_program.specs.Views.{program_of};
+ghost use Rattle.st_resolved.specs.Views.{program_of};
 ghost use Rattle.st_eval.specs.Evaluations.{IsMadeFor};
 
 mod evaluating;
@@ -307,7 +307,7 @@ mod programs;
 use anyhow::Result;
 use evaluating::{Evaluated, evaluate, made};
 use st_eval::Eval;
-use st_program::Resolved;
+use st_resolved::Resolved;
 use std::alloc::{AllocError, Global};
 use std::fs;
 use std::time::Instant;
@@ -445,7 +445,7 @@ END_
 mkdir -p "$program/proofs/evaluating/evaluate" "$program/proofs/all_checks" "$program/proofs/row" "$program/proofs/plain/+sorted" "$program/proofs/plain/+ordered"
 keeps_the_evaluator() { # the function, and its loop
     cat > "$program/proofs/$(echo "$1" | tr . /)/Invariants.antt" <<END_
-use Rattle.st_program.specs.Views.{program_of}
+use Rattle.st_resolved.specs.Views.{program_of}
 use Rattle.st_eval.specs.Evaluations.{IsMadeFor}
 use Rattle.evalbench.proofs.$1.Given as goal
 

@@ -444,7 +444,7 @@ END_
 # The judge of the tests.
 {
     printf '//! A judge to whom no verdict is right.\n\nuse crate::Failed;\nuse st_events::{Judge, Shape};\nuse std::alloc::Global;\nuse std::marker::Model;\n\n'
-    sed -n '/^\/\/\/ A judge to whom/,$p' "$top/crates/st_table_rows/src/tests/judges.rt" \
+    sed -n '/^\/\/\/ A judge to whom/,$p' "$top/crates/tests_table/src/tests/judges.rt" \
         | sed -e '/^\/\/\/ A class of one number/,/^\/\/\/ A judge of a program with no field/{/with no field/!d;}' \
             -e 's/Fail> {/Failed> {/' -e 's/Err(Fail::from("the shape fits"))/Err(Failed)/'
 } > "$program/src/judges.rt"

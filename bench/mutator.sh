@@ -7,12 +7,12 @@
 # Run it at any place of the repository:  sh bench/mutator.sh
 . "$(dirname "$0")/scratch.sh"
 
-crates='st_events st_program st_meaning st_threads st_mutator st_lex st_grammar st_ast st_syntax st_counts st_reading st_parse st_types st_bounds st_texts st_source st_gen'
+crates='st_events st_resolved st_check_meaning st_thread_meaning st_mutator st_lex st_charts st_ast st_grammar st_grammar_laws st_parse st_types st_limit_laws st_texts st_source st_gen'
 copy $crates
 for crate in $crates; do
     grep -E "^$crate( [a-z_=0-9]+)*:" "$top/crates.txt" >> "$scratch/crates.txt"
 done
-echo 'mutatorbench: st_events st_lex st_program st_ast st_meaning st_threads st_mutator st_types st_source st_gen anyhow' >> "$scratch/crates.txt"
+echo 'mutatorbench: st_events st_lex st_resolved st_ast st_check_meaning st_thread_meaning st_mutator st_types st_source st_gen anyhow' >> "$scratch/crates.txt"
 program=$scratch/crates/mutatorbench
 mkdir -p "$program/src"
 
@@ -234,8 +234,8 @@ END_
 mkdir -p "$program/proofs/threads/made"
 cat > "$program/proofs/threads/made/Answers.antt" <<'END_'
 use Rattle.std.proofs.Common.{sym, subst}
-use Rattle.st_program.specs.declared.programs.Resolved.{Resolved}
-use Rattle.st_program.specs.Views.{program_of}
+use Rattle.st_resolved.specs.declared.programs.Resolved.{Resolved}
+use Rattle.st_resolved.specs.Views.{program_of}
 use Rattle.st_mutator.specs.Mutators.{HasFewLocals}
 use Rattle.st_mutator.proofs.FewLemmas.{well_formed_has_few_locals}
 use Rattle.mutatorbench.proofs.threads.made.Goals as goal

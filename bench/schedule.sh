@@ -8,12 +8,12 @@
 # Run it at any place of the repository:  sh bench/schedule.sh
 . "$(dirname "$0")/scratch.sh"
 
-crates='st_events st_program st_meaning st_eval st_threads st_schedule st_mutator st_lex st_grammar st_ast st_syntax st_counts st_reading st_parse st_types st_bounds st_texts st_source st_snap st_sched st_gen'
+crates='st_events st_resolved st_check_meaning st_eval st_thread_meaning st_run_meaning st_mutator st_lex st_charts st_ast st_grammar st_grammar_laws st_parse st_types st_limit_laws st_texts st_source st_snap st_sched st_gen'
 copy $crates
 for crate in $crates; do
     grep -E "^$crate( [a-z_=0-9]+)*:" "$top/crates.txt" >> "$scratch/crates.txt"
 done
-echo 'schedulebench: st_events st_program st_eval st_lex st_ast st_types st_source st_sched st_gen anyhow' >> "$scratch/crates.txt"
+echo 'schedulebench: st_events st_resolved st_eval st_lex st_ast st_types st_source st_sched st_gen anyhow' >> "$scratch/crates.txt"
 program=$scratch/crates/schedulebench
 mkdir -p "$program/src"
 
@@ -24,7 +24,7 @@ ghost use Rattle.st_events.specs.declared.shapes.TheConstants.{MOST_ARGS};
 
 use st_eval::{Ask, Eval};
 use st_events::{Args, Event, HeapMap, MOST_ARGS, Sizes, replay};
-use st_program::Resolved;
+use st_resolved::Resolved;
 use st_types::Typed;
 use std::alloc::Global;
 
@@ -197,7 +197,7 @@ END_
 
 mkdir -p "$program/proofs/turns/count_reads"
 cat > "$program/proofs/turns/count_reads/Invariants.antt" <<'END_'
-use Rattle.st_program.specs.Views.{program_of}
+use Rattle.st_resolved.specs.Views.{program_of}
 use Rattle.st_eval.specs.Evaluations.{IsMadeFor}
 use Rattle.schedulebench.proofs.turns.count_reads.Given as goal
 

@@ -1,13 +1,13 @@
 #!/bin/sh
 # Times the calls of the snapshot heap beside a plain heap, at 1,000 and at 100,000 objects, outside the merge gate.
-# Makes a scratch repository of st_events, st_snap, st_snap_driver and a small program, proves and builds the program (LLVM), and prints
+# Makes a scratch repository of st_events, st_snap, tests_snap and a small program, proves and builds the program (LLVM), and prints
 # for each row the calls a second of the snapshot heap and of the plain one, by the best of 5 passes, and the ratio of the times.
 # The driver tests what a call asks once for a whole loop of calls.
 # Run it at any place of the repository:  sh bench/snap.sh
 . "$(dirname "$0")/scratch.sh"
 
-copy st_events st_snap st_snap_driver
-printf 'st_events:\nst_snap: st_events\nst_snap_driver: st_events st_snap\nsnapbench: st_events st_snap_driver anyhow\n' > "$scratch/crates.txt"
+copy st_events st_snap tests_snap
+printf 'st_events:\nst_snap: st_events\nst_snap_driver: st_events st_snap\nsnapbench: st_events tests_snap anyhow\n' > "$scratch/crates.txt"
 program=$scratch/crates/snapbench
 mkdir -p "$program/src"
 
@@ -86,7 +86,7 @@ mod plain;
 use anyhow::Result;
 use plain::Plain;
 use st_events::{Event, Journal, MOST_FIELDS, NoMemory, Sizes};
-use st_snap_driver::{Driven, Refused};
+use tests_snap::{Driven, Refused};
 use std::time::Instant;
 
 /// What is timed.
@@ -114,8 +114,8 @@ impl From<Refused> for Failed {
     }
 }
 
-impl From<st_snap_driver::Failed> for Failed {
-    fn from(_failed: st_snap_driver::Failed) -> Failed {
+impl From<tests_snap::Failed> for Failed {
+    fn from(_failed: tests_snap::Failed) -> Failed {
         Failed
     }
 }
