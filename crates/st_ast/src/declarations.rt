@@ -7,7 +7,7 @@ use sqlite_items::Items;
 use st_events::Site;
 
 /// The type that a declaration writes.
-#[derive(Debug, Drop)]
+#[derive(Drop)]
 pub enum TypeName {
     /// `int`.
     Int,
@@ -18,7 +18,7 @@ pub enum TypeName {
 }
 
 /// A field of a class, or a shared variable.
-#[derive(Debug, Drop)]
+#[derive(Drop)]
 pub struct Field {
     pub name: Name,
     pub kind: TypeName,
@@ -27,7 +27,7 @@ pub struct Field {
 }
 
 /// A class.
-#[derive(Debug, Drop)]
+#[derive(Drop)]
 pub struct Class {
     pub name: Name,
     pub fields: Items<Field>,
@@ -36,7 +36,7 @@ pub struct Class {
 }
 
 /// A parameter of a predicate or a procedure.
-#[derive(Debug, Drop)]
+#[derive(Drop)]
 pub struct Param {
     pub name: Name,
     pub kind: TypeName,
@@ -45,7 +45,7 @@ pub struct Param {
 }
 
 /// A predicate.
-#[derive(Debug, Drop)]
+#[derive(Drop)]
 pub struct Pred {
     pub name: Name,
     pub params: Items<Param>,
@@ -57,7 +57,7 @@ pub struct Pred {
 }
 
 /// A procedure.
-#[derive(Debug, Drop)]
+#[derive(Drop)]
 pub struct Proc {
     pub name: Name,
     pub params: Items<Param>,
@@ -67,7 +67,7 @@ pub struct Proc {
 }
 
 /// A thread.
-#[derive(Debug, Drop)]
+#[derive(Drop)]
 pub struct Thread {
     pub name: Name,
     pub body: Items<Stmt>,
@@ -76,7 +76,7 @@ pub struct Thread {
 }
 
 /// A source. Each list is in the order of the text. Without a shared block, and with an empty one, `shared` is empty.
-#[derive(Debug, Drop)]
+#[derive(Drop)]
 pub struct Program {
     pub classes: Items<Class>,
     /// The shared variables.

@@ -8,7 +8,7 @@ use sqlite_items::{Boxed, Items};
 use st_events::Site;
 
 /// An expression. A place, as statements write to it, is a `Field` or a `Shared`.
-#[derive(Debug, Drop)]
+#[derive(Drop)]
 pub enum Expr {
     /// A number.
     Number {

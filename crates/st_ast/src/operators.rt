@@ -1,7 +1,7 @@
 //! The operators that stand between two operands.
 
 /// An operator between two operands.
-#[derive(Clone, Copy, Debug, PartialEq, Eq)]
+#[derive(Clone, Copy)]
 pub enum Op {
     /// `+`
     Add,

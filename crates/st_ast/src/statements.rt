@@ -7,7 +7,7 @@ use sqlite_items::Items;
 use st_events::Site;
 
 /// What stands to the right of `=` in a statement.
-#[derive(Debug, Drop)]
+#[derive(Drop)]
 pub enum Value {
     /// An expression.
     Plain(Expr),
@@ -29,7 +29,7 @@ pub enum Value {
 }
 
 /// A statement.
-#[derive(Debug, Drop)]
+#[derive(Drop)]
 pub enum Stmt {
     /// `var name: kind = value;`.
     Var {

@@ -9,12 +9,12 @@ use Rattle.st_events.specs.declared.limits.Sizes.{Sizes}
 use Rattle.st_events.specs.declared.verdicts.End.{End}
 use Rattle.st_events.specs.History.{is_own}
 use Rattle.st_events.specs.Terms.{own_events}
-use Rattle.st_program.specs.Terms.{Program}
-use Rattle.st_threads.specs.Deeds.{make, load, store, cas, launch}
-use Rattle.st_threads.specs.Threads.{Turn, asks_for, has_ended, next_request, reply_of, IsAnswerTo, LeadTo, Follows}
-use Rattle.st_threads.specs.Laws.{replies_of}
-use Rattle.st_threads.proofs.FollowLemmas.{events_lead_by_replies}
-use Rattle.st_threads.proofs.MeansLemmas.{threads_keep_within_means}
+use Rattle.st_resolved.specs.Terms.{Program}
+use Rattle.st_thread_meaning.specs.Deeds.{make, load, store, cas, launch}
+use Rattle.st_thread_meaning.specs.Threads.{Turn, asks_for, has_ended, next_request, reply_of, IsAnswerTo, LeadTo, Follows}
+use Rattle.st_thread_meaning.specs.Laws.{replies_of}
+use Rattle.st_thread_meaning.proofs.FollowLemmas.{events_lead_by_replies}
+use Rattle.st_thread_meaning.proofs.MeansLemmas.{threads_keep_within_means}
 use Rattle.st_mutator.specs.Mutators.{Mutating, HasHad, narrow, narrowed, turn_of_want, replies_in}
 use Rattle.st_mutator.specs.declared.wants.Want.{Want}
 use Rattle.st_audit.specs.Differences.{Differs, IsFirstDifference, IsTrace, NamesSmall, is_end}

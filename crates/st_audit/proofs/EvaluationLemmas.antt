@@ -4,11 +4,11 @@ use Rattle.std.proofs.Math.Bool.{or_assoc}
 use Rattle.std.proofs.lemmas.List.Elements.{All-head, All-tail}
 use Rattle.st_events.specs.declared.verdicts.Plain.{Plain}
 use Rattle.st_events.specs.Terms.{Heap}
-use Rattle.st_program.specs.Terms.{Program}
-use Rattle.st_meaning.specs.Plain.{Cell, Followed, after_reading, followed, word_found, check_course, plain_value, cells_read}
-use Rattle.st_meaning.specs.Turns.{turn_of, followed_from}
-use Rattle.st_meaning.proofs.TurnLemmas.{following_is_by_turns}
-use Rattle.st_threads.specs.Right.{has_cell_of}
+use Rattle.st_resolved.specs.Terms.{Program}
+use Rattle.st_check_meaning.specs.Plain.{Cell, Followed, after_reading, followed, word_found, check_course, plain_value, cells_read}
+use Rattle.st_check_meaning.specs.Turns.{turn_of, followed_from}
+use Rattle.st_check_meaning.proofs.TurnLemmas.{following_is_by_turns}
+use Rattle.st_thread_meaning.specs.Right.{has_cell_of}
 use Rattle.st_eval.specs.declared.asks.Ask.TheVariants.{Read, Done}
 use Rattle.st_eval.specs.declared.evals.Eval.{Eval}
 use Rattle.st_eval.specs.Evaluations.{turn_by, IsTurn}

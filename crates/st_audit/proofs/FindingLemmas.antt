@@ -9,11 +9,11 @@ use Rattle.st_events.specs.declared.verdicts.Verdict.{Verdict}
 use Rattle.st_events.specs.Legal.{illegal_reason, IsFirstIllegal}
 use Rattle.st_events.specs.Terms.{ShapeLists, IsLegal, world_after, own_events}
 use Rattle.st_events.proofs.LegalLemmas.{each_is_legal}
-use Rattle.st_program.specs.Terms.{Program}
-use Rattle.st_threads.specs.Threads.{Turn, asks_for, has_ended, next_request, IsAnswerTo, LeadTo, Follows}
-use Rattle.st_threads.specs.Laws.{replies_of}
-use Rattle.st_threads.specs.Right.{IsRightVerdict}
-use Rattle.st_threads.proofs.FollowLemmas.{events_lead_by_replies}
+use Rattle.st_resolved.specs.Terms.{Program}
+use Rattle.st_thread_meaning.specs.Threads.{Turn, asks_for, has_ended, next_request, IsAnswerTo, LeadTo, Follows}
+use Rattle.st_thread_meaning.specs.Laws.{replies_of}
+use Rattle.st_thread_meaning.specs.Right.{IsRightVerdict}
+use Rattle.st_thread_meaning.proofs.FollowLemmas.{events_lead_by_replies}
 use Rattle.st_audit.specs.declared.findings.Finding.{Finding}
 use Rattle.st_audit.specs.declared.findings.Finding.TheVariants as found
 use Rattle.st_audit.specs.Differences.{Differs, IsFirstDifference, IsTrace}

@@ -6,9 +6,9 @@ use Rattle.st_events.specs.declared.limits.Sizes.{Sizes}
 use Rattle.st_events.specs.declared.verdicts.Verdict.{Verdict}
 use Rattle.st_events.specs.declared.verdicts.Verdict.TheVariants.{Plain as Value}
 use Rattle.st_events.specs.Terms.{ShapeLists, World, is_lost, next, world_after, heap_after, epoch_of, lost_pairs, IsLegal}
-use Rattle.st_program.specs.Terms.{Program}
-use Rattle.st_program.specs.WellFormed.{IsWellFormed}
-use Rattle.st_threads.specs.Right.{IsRightVerdict}
+use Rattle.st_resolved.specs.Terms.{Program}
+use Rattle.st_resolved.specs.WellFormed.{IsWellFormed}
+use Rattle.st_thread_meaning.specs.Right.{IsRightVerdict}
 use Rattle.st_audit.specs.declared.verdicts.Wrong.{Wrong}
 use Rattle.st_audit.specs.Findings.{IsRightAt, IsFirstWrong}
 use Rattle.st_audit.specs.Judging.{CanJudge, IsJudgedEvent}

@@ -19,13 +19,13 @@ use Rattle.st_events.proofs.KeptLemmas.{and_parts, and_both}
 use Rattle.st_events.proofs.LegalEvents.{legal_launch, is_same}
 use Rattle.st_events.proofs.LaunchLemmas.{launch_is_known}
 use Rattle.st_events.proofs.SoundLemmas.{legal_is_sound}
-use Rattle.st_program.specs.Terms.{Program}
-use Rattle.st_program.specs.WellFormed.{IsWellFormed}
-use Rattle.st_meaning.specs.Plain.{Cell, cells_read}
-use Rattle.st_meaning.specs.Laws.{IsTypedCell}
-use Rattle.st_meaning.specs.Safe.{AreOfKinds}
-use Rattle.st_meaning.proofs.CheckLemmas.{checks_read_cells_that_exist}
-use Rattle.st_threads.specs.Right.{words_of, IsRightOf, IsRightVerdict}
+use Rattle.st_resolved.specs.Terms.{Program}
+use Rattle.st_resolved.specs.WellFormed.{IsWellFormed}
+use Rattle.st_check_meaning.specs.Plain.{Cell, cells_read}
+use Rattle.st_check_meaning.specs.Laws.{IsTypedCell}
+use Rattle.st_check_meaning.specs.Safe.{AreOfKinds}
+use Rattle.st_check_meaning.proofs.CheckLemmas.{checks_read_cells_that_exist}
+use Rattle.st_thread_meaning.specs.Right.{words_of, IsRightOf, IsRightVerdict}
 use Rattle.st_audit.specs.Evaluations.{AreSmall, IsRightOn}
 use Rattle.st_audit.proofs.RoomLemmas.{room, object_is_within, legal_at}
 

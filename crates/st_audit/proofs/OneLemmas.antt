@@ -10,11 +10,11 @@ use Rattle.st_events.specs.Judge.{IsRightOfLaunch}
 use Rattle.st_events.specs.Legal.{illegal_reason, IsFirstIllegal}
 use Rattle.st_events.specs.Terms.{ShapeLists, Launched, IsLegal, world_after, own_events, launch_of, lost_pairs, is_lost}
 use Rattle.st_events.proofs.LegalLemmas.{each_is_legal}
-use Rattle.st_program.specs.Terms.{Program}
-use Rattle.st_threads.specs.Threads.{next_request, IsAnswerTo, LeadTo}
-use Rattle.st_threads.specs.Laws.{replies_of}
-use Rattle.st_threads.specs.Right.{IsRightOf, IsRightVerdict}
-use Rattle.st_threads.proofs.FollowLemmas.{events_lead_by_replies}
+use Rattle.st_resolved.specs.Terms.{Program}
+use Rattle.st_thread_meaning.specs.Threads.{next_request, IsAnswerTo, LeadTo}
+use Rattle.st_thread_meaning.specs.Laws.{replies_of}
+use Rattle.st_thread_meaning.specs.Right.{IsRightOf, IsRightVerdict}
+use Rattle.st_thread_meaning.proofs.FollowLemmas.{events_lead_by_replies}
 use Rattle.st_audit.specs.declared.findings.Finding.{Finding}
 use Rattle.st_audit.specs.declared.findings.Finding.TheVariants as found
 use Rattle.st_audit.specs.Differences.{Differs, IsFirstDifference}

@@ -5,7 +5,7 @@ use borrow.Author.Count.{below_more}
 use Rattle.st_events.specs.declared.events.Event.{Event}
 use Rattle.st_events.specs.declared.limits.Sizes.{Sizes}
 use Rattle.st_events.specs.Terms.{own_events}
-use Rattle.st_program.specs.Terms.{Program}
+use Rattle.st_resolved.specs.Terms.{Program}
 use Rattle.st_audit.specs.declared.strays.Stray.{Stray}
 use Rattle.st_audit.specs.Differences.{IsFirstDifference, IsTrace}
 use Rattle.st_audit.specs.Findings.{IsComparedAlone, AreComparedUpTo, AreCompared}

@@ -7,8 +7,8 @@ use Rattle.st_events.specs.declared.events.Event.TheVariants.{New, Load, Store, 
 use Rattle.st_events.specs.Terms.{own_events}
 use Rattle.st_mutator.specs.declared.wants.Want.{Want}
 use Rattle.st_mutator.specs.declared.wants.Want.TheVariants as want
-use Rattle.st_program.specs.Terms.{Program}
-use Rattle.st_threads.specs.Threads.{Turn, asks_for, has_ended, IsAnswerTo, LeadTo, Follows}
+use Rattle.st_resolved.specs.Terms.{Program}
+use Rattle.st_thread_meaning.specs.Threads.{Turn, asks_for, has_ended, IsAnswerTo, LeadTo, Follows}
 
 -- what comes next is not what the thread does next: another event, or one after its end, or none where it asks for something
 abbrev pub Differs : Turn → List Event → Type 0

@@ -5,9 +5,9 @@ use Rattle.st_events.specs.declared.verdicts.Verdict.{Verdict}
 use Rattle.st_events.specs.Terms.{Heap}
 use Rattle.st_events.specs.declared.verdicts.Plain.{Plain}
 use Rattle.st_events.specs.declared.verdicts.Verdict.TheVariants.{Plain as Value, Abandoned}
-use Rattle.st_program.specs.Terms.{Program}
-use Rattle.st_meaning.specs.Plain.{Cell, plain_value, cells_read}
-use Rattle.st_threads.specs.Right.{words_of, has_cell_of}
+use Rattle.st_resolved.specs.Terms.{Program}
+use Rattle.st_check_meaning.specs.Plain.{Cell, plain_value, cells_read}
+use Rattle.st_thread_meaning.specs.Right.{words_of, has_cell_of}
 
 -- the objects of the cells have numbers of 32 bits
 abbrev pub AreSmall : List Cell → Type 0

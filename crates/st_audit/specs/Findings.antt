@@ -8,8 +8,8 @@ use Rattle.st_events.specs.declared.errors.Why.{Why}
 use Rattle.st_events.specs.declared.verdicts.Plain.{Plain}
 use Rattle.st_events.specs.declared.verdicts.Verdict.TheVariants.{Plain as Value}
 use Rattle.st_events.specs.Legal.{IsFirstIllegal}
-use Rattle.st_program.specs.Terms.{Program}
-use Rattle.st_threads.specs.Right.{IsRightVerdict}
+use Rattle.st_resolved.specs.Terms.{Program}
+use Rattle.st_thread_meaning.specs.Right.{IsRightVerdict}
 use Rattle.st_audit.specs.declared.findings.Finding.{Finding}
 use Rattle.st_audit.specs.declared.findings.Finding.TheVariants as found
 use Rattle.st_audit.specs.declared.strays.Stray.{Stray}

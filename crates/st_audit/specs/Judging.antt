@@ -6,9 +6,9 @@ use Rattle.st_events.specs.declared.events.Event.TheVariants.{New, Load, Store, 
 use Rattle.st_events.specs.declared.shapes.TheConstants.{MOST_ARGS}
 use Rattle.st_events.specs.declared.verdicts.Verdict.{Verdict}
 use Rattle.st_events.specs.Terms.{Heap}
-use Rattle.st_program.specs.Terms.{Program}
-use Rattle.st_meaning.specs.Plain.{cells_read}
-use Rattle.st_threads.specs.Right.{words_of}
+use Rattle.st_resolved.specs.Terms.{Program}
+use Rattle.st_check_meaning.specs.Plain.{cells_read}
+use Rattle.st_thread_meaning.specs.Right.{words_of}
 use Rattle.st_audit.specs.declared.verdicts.Wrong.{Wrong}
 use Rattle.st_audit.specs.Evaluations.{AreSmall, IsRightOn, IsWrongOn}
 

@@ -4,7 +4,7 @@ use Rattle.st_events.specs.declared.events.Event.{Event}
 use Rattle.st_events.specs.declared.limits.Sizes.{Sizes}
 use Rattle.st_events.specs.declared.verdicts.Verdict.{Verdict}
 use Rattle.st_events.specs.Terms.{ShapeLists}
-use Rattle.st_program.specs.Terms.{Program}
+use Rattle.st_resolved.specs.Terms.{Program}
 use Rattle.st_audit.specs.declared.findings.Finding.{Finding}
 use Rattle.st_audit.specs.declared.findings.Finding.TheVariants.{Memory}
 use Rattle.st_audit.specs.Findings.{IsRightJournal, IsFinding}

@@ -1,8 +1,8 @@
 //! The audit of a journal: the first finding.
 ghost use Rattle.std.specs.Prelude.{◌≡◌, ◌<◌, ◌^◌, length, Err, OnOk, IfOk};
 ghost use Rattle.st_events.specs.Terms.{AreWithinLimits, IsWithinLimits};
-ghost use Rattle.st_program.specs.Views.{program_of};
-ghost use Rattle.st_program.specs.WellFormed.{IsWellFormed};
+ghost use Rattle.st_resolved.specs.Views.{program_of};
+ghost use Rattle.st_resolved.specs.WellFormed.{IsWellFormed};
 ghost use Rattle.st_audit.specs.declared.findings.Finding.{Finding};
 ghost use Rattle.st_audit.specs.declared.findings.Finding.TheVariants.{Memory};
 ghost use Rattle.st_audit.specs.Findings.{IsRightJournal, IsFinding, AreReplayed};
@@ -13,7 +13,7 @@ use crate::losses::marks_of;
 use crate::strays::{Stray, first_stray};
 use crate::verdicts::{Wrong, first_wrong};
 use st_events::{Event, NoMemory, ReplayError, Shape, Sizes, Verdict, replay};
-use st_program::Resolved;
+use st_resolved::Resolved;
 use st_types::Typed;
 use std::alloc::Global;
 

@@ -2,14 +2,14 @@
 ghost use Rattle.std.specs.Prelude.{◌≡◌, ◌<◌, ◌^◌, true, false, length, All, IfOk};
 ghost use Rattle.st_events.specs.History.{is_own};
 ghost use Rattle.st_events.specs.Sizes.{AreWithinLimits};
-ghost use Rattle.st_program.specs.Views.{program_of};
-ghost use Rattle.st_threads.specs.Threads.{reply_of, IsAnswerTo};
+ghost use Rattle.st_resolved.specs.Views.{program_of};
+ghost use Rattle.st_thread_meaning.specs.Threads.{reply_of, IsAnswerTo};
 ghost use Rattle.st_mutator.specs.Mutators.{HasFewLocals, turn_of_want};
 ghost use Rattle.st_audit.specs.Differences.{NamesSmall, IsCompared, asked_by, is_end};
 
 use st_events::{Event, NoMemory, Sizes};
 use st_mutator::{Mutator, Want};
-use st_program::Resolved;
+use st_resolved::Resolved;
 use std::alloc::Global;
 
 /// The number, from 1, of the first own event of thread `m` that is not what its code does; one more than it has where the next is missing. None

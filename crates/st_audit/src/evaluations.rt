@@ -2,15 +2,15 @@
 ghost use Rattle.std.specs.Prelude.{◌≡◌, ◌≤◌, ◌||◌};
 ghost use Rattle.st_events.specs.Heap.{heap_of};
 ghost use Rattle.st_events.specs.declared.shapes.TheConstants.{MOST_ARGS};
-ghost use Rattle.st_program.specs.Views.{program_of};
-ghost use Rattle.st_meaning.specs.Plain.{plain_value, cells_read, word_found};
-ghost use Rattle.st_threads.specs.Right.{words_of, has_cell_of};
+ghost use Rattle.st_resolved.specs.Views.{program_of};
+ghost use Rattle.st_check_meaning.specs.Plain.{plain_value, cells_read, word_found};
+ghost use Rattle.st_thread_meaning.specs.Right.{words_of, has_cell_of};
 ghost use Rattle.st_eval.specs.Evaluations.{IsMadeFor, budget};
 ghost use Rattle.st_audit.specs.Evaluations.{AreSmall};
 
 use st_eval::{Ask, Eval};
 use st_events::{Args, HeapMap, Plain};
-use st_program::Resolved;
+use st_resolved::Resolved;
 
 /// What the evaluation of a check tells.
 #[derive(Clone, Copy, Debug)]

@@ -2,14 +2,14 @@
 ghost use Rattle.std.specs.Prelude.{◌≡◌, ◌<◌, ◌^◌, length, All, IfOk};
 ghost use Rattle.std.specs.Option.{option_or};
 ghost use Rattle.st_events.specs.Terms.{AreWithinLimits};
-ghost use Rattle.st_program.specs.Views.{program_of};
+ghost use Rattle.st_resolved.specs.Views.{program_of};
 ghost use Rattle.st_mutator.specs.Mutators.{HasFewLocals};
 ghost use Rattle.st_audit.specs.Differences.{NamesSmall};
 ghost use Rattle.st_audit.specs.Findings.{AreCompared, IsComparedAlone};
 
 use crate::differences::first_difference;
 use st_events::{Event, NoMemory, Sizes};
-use st_program::Resolved;
+use st_resolved::Resolved;
 use std::alloc::Global;
 
 /// A thread whose own events are not what its code does.

@@ -3,10 +3,10 @@ ghost use Rattle.std.specs.Prelude.{◌≡◌, ◌≤◌, ◌<◌, ◌^◌, ℕ,
 ghost use Rattle.st_events.specs.Heap.{heap_of};
 ghost use Rattle.st_events.specs.Terms.{IsLegal, lost_pairs, IsWithinLimits, AreWithinLimits};
 ghost use Rattle.st_events.specs.declared.shapes.TheConstants.{MOST_ARGS};
-ghost use Rattle.st_program.specs.Views.{program_of};
-ghost use Rattle.st_program.specs.WellFormed.{IsWellFormed};
-ghost use Rattle.st_meaning.specs.Plain.{cells_read};
-ghost use Rattle.st_threads.specs.Right.{words_of};
+ghost use Rattle.st_resolved.specs.Views.{program_of};
+ghost use Rattle.st_resolved.specs.WellFormed.{IsWellFormed};
+ghost use Rattle.st_check_meaning.specs.Plain.{cells_read};
+ghost use Rattle.st_thread_meaning.specs.Right.{words_of};
 ghost use Rattle.st_eval.specs.Evaluations.{IsMadeFor, budget};
 ghost use Rattle.st_audit.specs.Evaluations.{AreSmall, IsJudged};
 ghost use Rattle.st_audit.specs.Findings.{AreJudged};
@@ -17,7 +17,7 @@ use crate::evaluations::evaluate;
 use crate::heaps::take_in;
 use st_eval::Eval;
 use st_events::{Args, Event, HeapMap, NoMemory, Plain, Shape, Sizes, Verdict};
-use st_program::Resolved;
+use st_resolved::Resolved;
 use std::alloc::Global;
 
 /// A check whose verdict is wrong.

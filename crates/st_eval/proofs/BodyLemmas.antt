@@ -3,12 +3,12 @@ use Rattle.std.proofs.Common.{◌≡◌, ◌≤◌, ◌<◌, ℕ, zero, suc, ◌
 use Rattle.std.proofs.Common.{refl, sym, ◌∙◌, ap, subst, arith, append_assoc, length-append, add-one}
 use Rattle.std.proofs.lemmas.List.{take_all, take-append-le, map-append}
 use Rattle.std.proofs.Math.Seq.{drop-append_seam, drop-cons, take-suc}
-use Rattle.st_program.specs.declared.programs.Check.{Check}
-use Rattle.st_program.specs.declared.programs.Pred.{Pred}
-use Rattle.st_program.specs.declared.programs.Resolved.{Resolved}
-use Rattle.st_program.specs.Terms.{Term, Predicate}
-use Rattle.st_program.specs.Views.{term_of, check_of, predicate_of, program_of}
-use Rattle.st_meaning.specs.Meaning.{Calls, body_course}
+use Rattle.st_resolved.specs.declared.programs.Check.{Check}
+use Rattle.st_resolved.specs.declared.programs.Pred.{Pred}
+use Rattle.st_resolved.specs.declared.programs.Resolved.{Resolved}
+use Rattle.st_resolved.specs.Terms.{Term, Predicate}
+use Rattle.st_resolved.specs.Views.{term_of, check_of, predicate_of, program_of}
+use Rattle.st_check_meaning.specs.Meaning.{Calls, body_course}
 use Rattle.st_eval.specs.declared.frames.Span.{Span}
 use Rattle.st_eval.specs.declared.instructions.Instruction.{Instruction}
 use Rattle.st_eval.specs.StraightCode.{code_of, code_course}

@@ -4,16 +4,16 @@ use Rattle.std.proofs.Common.{refl, sym, ◌∙◌, ap, append_assoc}
 use mathlib.Core.Path.{fun_ext}
 use Rattle.std.proofs.lemmas.List.{append-nil, reverse-append, reverse-reverse, length-reverse}
 use Rattle.std.proofs.Math.Seq.{take-append_seam, drop-append_seam}
-use Rattle.st_meaning.specs.Numbers.{number_of, is_true, number_or_overflow}
-use Rattle.st_meaning.specs.Meaning.{operate, field_of}
-use Rattle.st_program.specs.declared.expressions.Operator.{Operator}
+use Rattle.st_check_meaning.specs.Numbers.{number_of, is_true, number_or_overflow}
+use Rattle.st_check_meaning.specs.Meaning.{operate, field_of}
+use Rattle.st_resolved.specs.declared.expressions.Operator.{Operator}
 use Rattle.st_events.specs.declared.events.Site.{Site}
 use Rattle.st_eval.specs.declared.instructions.Instruction.{Instruction}
 use Rattle.st_eval.specs.declared.instructions.Instruction.TheVariants.{Field, Not, Minus, Binary, Both, Either, Test, Skip, Call}
-use Rattle.st_program.specs.Terms.{Term, a_number, a_truth, a_null, a_local, a_shared, a_field, a_not, a_minus, a_binary, a_both, an_either, a_cond, a_call}
-use Rattle.st_program.specs.Terms.{Terms, no_terms, term_then}
-use Rattle.st_meaning.specs.Courses.{Course, comes_to, ends_in, reads, uses_unit, and_then}
-use Rattle.st_meaning.specs.Meaning.{Calls, truth, course_of, courses_of}
+use Rattle.st_resolved.specs.Terms.{Term, a_number, a_truth, a_null, a_local, a_shared, a_field, a_not, a_minus, a_binary, a_both, an_either, a_cond, a_call}
+use Rattle.st_resolved.specs.Terms.{Terms, no_terms, term_then}
+use Rattle.st_check_meaning.specs.Courses.{Course, comes_to, ends_in, reads, uses_unit, and_then}
+use Rattle.st_check_meaning.specs.Meaning.{Calls, truth, course_of, courses_of}
 use Rattle.st_eval.specs.StraightCode.{After, code_of, codes_of, count_of, done, code_course}
 
 -- three courses, one after another, in either grouping

@@ -2,8 +2,8 @@
 use Rattle.std.proofs.Common.{◌≡◌, ◌<◌, ◌+◌, ℕ, suc, List, [], ◌∷◌, ◌++◌, length, drop, get_or, refl, sym, ◌∙◌, ap, append_assoc, add-one}
 use Rattle.std.proofs.Math.Seq.{drop-cons}
 use Rattle.st_eval.specs.declared.instructions.Instruction.{Instruction}
-use Rattle.st_program.specs.declared.expressions.Expr.{Expr}
-use Rattle.st_program.specs.Views.{term_of, args_of}
+use Rattle.st_resolved.specs.declared.expressions.Expr.{Expr}
+use Rattle.st_resolved.specs.Views.{term_of, args_of}
 use Rattle.st_eval.specs.StraightCode.{count_of, code_of, codes_of}
 
 -- as many arguments as expressions

@@ -7,13 +7,13 @@ use Rattle.st_events.specs.Heap.{Heap}
 use Rattle.st_events.specs.declared.events.Args.{Args}
 use Rattle.st_events.specs.declared.verdicts.Plain.{Plain}
 use Rattle.st_events.specs.declared.shapes.TheConstants.{MOST_ARGS}
-use Rattle.st_program.specs.Terms.{Program, CheckStatement}
-use Rattle.st_meaning.specs.declared.limits.TheConstants.{MOST_DEPTH}
-use Rattle.st_meaning.specs.Courses.{Course}
-use Rattle.st_meaning.specs.Meaning.{Calls, course_of, call_within}
-use Rattle.st_meaning.specs.Plain.{Cell, word_found, statement_course, check_course, plain_value, cells_read}
-use Rattle.st_meaning.specs.Turns.{Turn, asks, is_over, turn_of, turn_after, words_of_first, IsTurnFor}
-use Rattle.st_meaning.proofs.TurnLemmas.{checks_ask_in_order}
+use Rattle.st_resolved.specs.Terms.{Program, CheckStatement}
+use Rattle.st_check_meaning.specs.declared.limits.TheConstants.{MOST_DEPTH}
+use Rattle.st_check_meaning.specs.Courses.{Course}
+use Rattle.st_check_meaning.specs.Meaning.{Calls, course_of, call_within}
+use Rattle.st_check_meaning.specs.Plain.{Cell, word_found, statement_course, check_course, plain_value, cells_read}
+use Rattle.st_check_meaning.specs.Turns.{Turn, asks, is_over, turn_of, turn_after, words_of_first, IsTurnFor}
+use Rattle.st_check_meaning.proofs.TurnLemmas.{checks_ask_in_order}
 use Rattle.st_eval.specs.declared.asks.Ask.{Ask}
 use Rattle.st_eval.specs.declared.asks.Ask.TheVariants.{Read, Done}
 use Rattle.st_eval.specs.declared.evals.Eval.{Eval}

@@ -3,10 +3,10 @@ use Rattle.std.proofs.Common.{◌≡◌, ◌≢◌, ◌≤◌, ◌<◌, ℕ, suc
 use Rattle.std.proofs.Common.{List, [], ◌∷◌, length, drop, Option, Some, None, slice_get, refl, ◌∙◌, ap, subst, arith, neg_ℤ}
 use Rattle.std.proofs.lemmas.List.{length-drop}
 use Rattle.st_events.specs.declared.verdicts.Plain.TheVariants.{Null, Deep, Spent}
-use Rattle.st_meaning.specs.declared.limits.TheConstants.{MOST_DEPTH}
-use Rattle.st_meaning.specs.Courses.{Course, comes_to, ends_in, reads, uses_unit}
-use Rattle.st_meaning.specs.Numbers.{is_true, number_of, number_or_overflow}
-use Rattle.st_meaning.specs.Meaning.{operate}
+use Rattle.st_check_meaning.specs.declared.limits.TheConstants.{MOST_DEPTH}
+use Rattle.st_check_meaning.specs.Courses.{Course, comes_to, ends_in, reads, uses_unit}
+use Rattle.st_check_meaning.specs.Numbers.{is_true, number_of, number_or_overflow}
+use Rattle.st_check_meaning.specs.Meaning.{operate}
 use Rattle.st_eval.specs.declared.frames.Span.{Span}
 use Rattle.st_eval.specs.declared.instructions.Instruction.{Instruction}
 use Rattle.st_eval.specs.declared.instructions.Instruction.TheVariants.{Push, Local, Shared, Field, Not, Minus, Binary, Both, Either, Test, Skip, Call}

@@ -3,9 +3,9 @@ use Rattle.std.proofs.Common.{◌≡◌, ◌<◌, ◌^◌, ℕ, zero, suc, List,
 use Rattle.std.specs.List.{AllByRecursion}
 use Rattle.std.proofs.lemmas.List.Elements.{recursion_from_All}
 use Rattle.st_events.specs.Heap.{Heap, Object, word_of}
-use Rattle.st_meaning.specs.Plain.{Cell, cells_read}
-use Rattle.st_meaning.specs.Laws.{IsTypedCell}
-use Rattle.st_meaning.proofs.CheckLemmas.{checks_read_cells_that_exist}
+use Rattle.st_check_meaning.specs.Plain.{Cell, cells_read}
+use Rattle.st_check_meaning.specs.Laws.{IsTypedCell}
+use Rattle.st_check_meaning.proofs.CheckLemmas.{checks_read_cells_that_exist}
 use Rattle.st_eval.specs.Laws.{HasSmallNumbers, TellEachObject}
 
 -- what holds of all holds of each

@@ -4,7 +4,7 @@ use Rattle.std.proofs.Common.{refl, sym, ◌∙◌, ap, arith, ◌⊎◌, inl, i
 use Rattle.std.proofs.lemmas.Bool.{cases_lt}
 use Rattle.std.proofs.lemmas.List.{drop_all, length-take, length-drop}
 use Rattle.st_eval.specs.declared.instructions.Instruction.{Instruction}
-use Rattle.st_meaning.specs.Meaning.{Calls}
+use Rattle.st_check_meaning.specs.Meaning.{Calls}
 use Rattle.st_eval.specs.StraightCode.{code_course}
 use Rattle.st_eval.specs.Steps.{part}
 use Rattle.st_eval.proofs.StackLemmas.{drop_twice}

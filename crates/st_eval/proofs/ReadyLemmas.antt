@@ -4,12 +4,12 @@ use Rattle.std.proofs.Common.{List, [], ◌∷◌, length, take, drop, reverse, 
 use Rattle.std.proofs.lemmas.List.{length-take, length-drop, length-reverse}
 use Rattle.std.proofs.Math.Nat.{mul-le-mul_left}
 use Rattle.st_events.specs.declared.shapes.TheConstants.{MOST_ARGS}
-use Rattle.st_meaning.specs.declared.limits.TheConstants.{MOST_DEPTH}
-use Rattle.st_meaning.specs.Courses.{Course, comes_to, ends_in, reads, uses_unit}
+use Rattle.st_check_meaning.specs.declared.limits.TheConstants.{MOST_DEPTH}
+use Rattle.st_check_meaning.specs.Courses.{Course, comes_to, ends_in, reads, uses_unit}
 use Rattle.st_events.specs.declared.verdicts.Plain.TheVariants.{Null, Deep, Spent}
-use Rattle.st_meaning.specs.Numbers.{is_true, number_of, word_of_truth, number_or_overflow}
-use Rattle.st_meaning.specs.Meaning.{operate}
-use Rattle.st_program.specs.Terms.{Term}
+use Rattle.st_check_meaning.specs.Numbers.{is_true, number_of, word_of_truth, number_or_overflow}
+use Rattle.st_check_meaning.specs.Meaning.{operate}
+use Rattle.st_resolved.specs.Terms.{Term}
 use Rattle.st_eval.specs.declared.frames.Span.{Span}
 use Rattle.st_eval.specs.declared.instructions.Instruction.{Instruction}
 use Rattle.st_eval.specs.declared.instructions.Instruction.TheVariants.{Push, Local, Shared, Field, Not, Minus, Binary, Both, Either, Test, Skip, Call}

@@ -7,18 +7,18 @@ use Rattle.st_events.specs.declared.verdicts.Plain.TheVariants.{Null, Divide, Ov
 use Rattle.st_events.specs.declared.shapes.Kind.{Kind}
 use Rattle.st_events.specs.declared.shapes.Kind.TheVariants.{Int, Bool as Truth, Ref}
 use Rattle.st_events.specs.Shape.{ShapeLists, kinds_of}
-use Rattle.st_program.specs.declared.expressions.Operator.{Operator}
-use Rattle.st_program.specs.declared.expressions.Operator.TheVariants.{Add, Sub, Mul, Div, Rem, Less, LessEq, Greater, GreaterEq, Equal, NotEqual}
-use Rattle.st_program.specs.Terms.{Term, a_number, a_truth, a_null, a_local, a_shared, a_field, a_not, a_minus, a_binary, a_both, an_either, a_cond, a_call}
-use Rattle.st_program.specs.Terms.{Terms, no_terms, term_then, Predicate, CheckStatement, Program}
-use Rattle.st_program.specs.Kinds.{Setting, HasKind, HaveKinds, IsClassKind, kind_given}
-use Rattle.st_program.specs.WellFormed.{IsWellFormed, IsRightPredicate}
-use Rattle.st_meaning.specs.declared.limits.TheConstants.{MOST_DEPTH}
-use Rattle.st_meaning.specs.Courses.{Course, comes_to, ends_in, reads, uses_unit, and_then}
-use Rattle.st_meaning.specs.Numbers.{number_of, word_of_number, word_of_truth, is_true, is_in_range, number_or_overflow}
-use Rattle.st_meaning.specs.Meaning.{Calls, truth, quotient, operate, read_cell, field_of, course_of, courses_of, body_course, call_within}
-use Rattle.st_meaning.specs.Plain.{statement_course, check_course}
-use Rattle.st_meaning.proofs.CheckLemmas.{element_found, IsStatementOf, statement_is_there}
+use Rattle.st_resolved.specs.declared.expressions.Operator.{Operator}
+use Rattle.st_resolved.specs.declared.expressions.Operator.TheVariants.{Add, Sub, Mul, Div, Rem, Less, LessEq, Greater, GreaterEq, Equal, NotEqual}
+use Rattle.st_resolved.specs.Terms.{Term, a_number, a_truth, a_null, a_local, a_shared, a_field, a_not, a_minus, a_binary, a_both, an_either, a_cond, a_call}
+use Rattle.st_resolved.specs.Terms.{Terms, no_terms, term_then, Predicate, CheckStatement, Program}
+use Rattle.st_resolved.specs.Kinds.{Setting, HasKind, HaveKinds, IsClassKind, kind_given}
+use Rattle.st_resolved.specs.WellFormed.{IsWellFormed, IsRightPredicate}
+use Rattle.st_check_meaning.specs.declared.limits.TheConstants.{MOST_DEPTH}
+use Rattle.st_check_meaning.specs.Courses.{Course, comes_to, ends_in, reads, uses_unit, and_then}
+use Rattle.st_check_meaning.specs.Numbers.{number_of, word_of_number, word_of_truth, is_true, is_in_range, number_or_overflow}
+use Rattle.st_check_meaning.specs.Meaning.{Calls, truth, quotient, operate, read_cell, field_of, course_of, courses_of, body_course, call_within}
+use Rattle.st_check_meaning.specs.Plain.{statement_course, check_course}
+use Rattle.st_check_meaning.proofs.CheckLemmas.{element_found, IsStatementOf, statement_is_there}
 use Rattle.st_eval.specs.Replies.{IsWordOf, AreWordsOf, AsksWell}
 use Rattle.st_eval.specs.Laws.{AskWell}
 

@@ -7,14 +7,14 @@ use Rattle.std.proofs.lemmas.Bool.Decides.{nat_tests}
 use Rattle.st_events.specs.declared.events.Site.{Site}
 use Rattle.st_events.specs.declared.verdicts.Plain.{Plain}
 use Rattle.st_events.specs.declared.verdicts.Plain.TheVariants.{Null, Divide, Overflow, Spent, Deep}
-use Rattle.st_program.specs.declared.expressions.Operator.{Operator}
-use Rattle.st_program.specs.declared.expressions.Operator.TheVariants.{Add, Sub, Mul, Div, Rem, Less, LessEq, Greater, GreaterEq, Equal, NotEqual}
-use Rattle.st_program.specs.Terms.{Predicate}
-use Rattle.st_meaning.specs.declared.limits.TheConstants.{MOST_DEPTH}
-use Rattle.st_meaning.specs.Courses.{Course, comes_to, ends_in, reads, uses_unit, and_then}
-use Rattle.st_meaning.specs.Numbers.{number_of, word_of_number, is_true, is_in_range, number_or_overflow}
-use Rattle.st_meaning.specs.Meaning.{operate, quotient, body_course, call_within}
-use Rattle.st_meaning.specs.Turns.{Turn, is_over, turn_of}
+use Rattle.st_resolved.specs.declared.expressions.Operator.{Operator}
+use Rattle.st_resolved.specs.declared.expressions.Operator.TheVariants.{Add, Sub, Mul, Div, Rem, Less, LessEq, Greater, GreaterEq, Equal, NotEqual}
+use Rattle.st_resolved.specs.Terms.{Predicate}
+use Rattle.st_check_meaning.specs.declared.limits.TheConstants.{MOST_DEPTH}
+use Rattle.st_check_meaning.specs.Courses.{Course, comes_to, ends_in, reads, uses_unit, and_then}
+use Rattle.st_check_meaning.specs.Numbers.{number_of, word_of_number, is_true, is_in_range, number_or_overflow}
+use Rattle.st_check_meaning.specs.Meaning.{operate, quotient, body_course, call_within}
+use Rattle.st_check_meaning.specs.Turns.{Turn, is_over, turn_of}
 use Rattle.st_eval.specs.declared.frames.Span.{Span}
 use Rattle.st_eval.specs.declared.instructions.Instruction.{Instruction}
 use Rattle.st_eval.specs.declared.instructions.Instruction.TheVariants.{Push, Local, Shared, Field, Not, Minus, Binary, Both, Either, Test, Skip, Call}

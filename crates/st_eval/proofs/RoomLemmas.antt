@@ -4,8 +4,8 @@ use Rattle.std.proofs.Common.{List, [], ◌∷◌, ◌++◌, length, drop}
 use Rattle.std.proofs.Common.{sym, ◌∙◌, ap, subst, arith, append_assoc}
 use Rattle.std.proofs.lemmas.List.{append-nil}
 use Rattle.st_events.specs.declared.shapes.TheConstants.{MOST_ARGS}
-use Rattle.st_program.specs.Terms.{Term, a_number, a_truth, a_null, a_local, a_shared, a_field, a_not, a_minus, a_binary, a_both, an_either, a_cond, a_call}
-use Rattle.st_program.specs.Terms.{Terms, no_terms, term_then}
+use Rattle.st_resolved.specs.Terms.{Term, a_number, a_truth, a_null, a_local, a_shared, a_field, a_not, a_minus, a_binary, a_both, an_either, a_cond, a_call}
+use Rattle.st_resolved.specs.Terms.{Terms, no_terms, term_then}
 use Rattle.st_eval.specs.declared.frames.Span.{Span}
 use Rattle.st_eval.specs.declared.instructions.Instruction.{Instruction}
 use Rattle.st_eval.specs.declared.instructions.Instruction.TheVariants.{Field, Not, Minus, Binary, Both, Either, Test, Skip, Call}

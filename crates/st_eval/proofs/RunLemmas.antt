@@ -1,7 +1,7 @@
 -- Steps one after another: what the loop of the evaluator needs and keeps.
 use Rattle.std.proofs.Common.{◌≡◌, ◌<◌, ℕ, List, Option, Some, None, sym, ◌∙◌, ap, subst}
-use Rattle.st_program.specs.Terms.{Program}
-use Rattle.st_meaning.specs.Turns.{Turn, asks, is_over, turn_of}
+use Rattle.st_resolved.specs.Terms.{Program}
+use Rattle.st_check_meaning.specs.Turns.{Turn, asks, is_over, turn_of}
 use Rattle.st_eval.specs.declared.asks.Ask.{Ask}
 use Rattle.st_eval.specs.declared.asks.Ask.TheVariants.{Read, Done}
 use Rattle.st_eval.specs.declared.frames.Span.{Span}

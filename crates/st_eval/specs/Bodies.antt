@@ -6,7 +6,7 @@ use Rattle.st_eval.specs.declared.program_codes.ProgramCode.{ProgramCode}
 use Rattle.st_eval.specs.StraightCode.{code_of}
 use Rattle.st_eval.specs.Steps.{part}
 use Rattle.st_eval.specs.Room.{growth}
-use Rattle.st_program.specs.Terms.{Term, Program, Predicate, CheckStatement}
+use Rattle.st_resolved.specs.Terms.{Term, Program, Predicate, CheckStatement}
 
 -- the code at these places is that of these bodies, one by one, none of which has more words than so many, a first reply included
 abbrev pub AreBodies : List Instruction → ℕ → List Span → List Term → Type 0

@@ -2,10 +2,10 @@
 use Rattle.std.specs.Prelude.{◌≡◌, ◌<◌, ◌^◌, ℕ, suc, List, [], take, drop, slice_get, Some}
 use Rattle.st_events.specs.declared.events.Args.{Args}
 use Rattle.st_events.specs.Heap.{Heap}
-use Rattle.st_program.specs.Terms.{Program}
-use Rattle.st_meaning.specs.Courses.{Course}
-use Rattle.st_meaning.specs.Turns.{Turn, asks, is_over, turn_of, turn_after, words_of_first}
-use Rattle.st_meaning.specs.Plain.{word_found, check_course, plain_value, cells_read}
+use Rattle.st_resolved.specs.Terms.{Program}
+use Rattle.st_check_meaning.specs.Courses.{Course}
+use Rattle.st_check_meaning.specs.Turns.{Turn, asks, is_over, turn_of, turn_after, words_of_first}
+use Rattle.st_check_meaning.specs.Plain.{word_found, check_course, plain_value, cells_read}
 use Rattle.st_eval.specs.declared.asks.Ask.{Ask}
 use Rattle.st_eval.specs.declared.asks.Ask.TheVariants.{Read, Done}
 use Rattle.st_eval.specs.declared.evals.Eval.{Eval}

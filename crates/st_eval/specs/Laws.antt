@@ -6,12 +6,12 @@ use Rattle.st_events.specs.Heap.{Heap, Object}
 use Rattle.st_events.specs.Shape.{ShapeLists}
 use Rattle.st_events.specs.Sound.{IsTypedHeap}
 use Rattle.st_eval.specs.declared.instructions.Instruction.{Instruction}
-use Rattle.st_program.specs.Terms.{Term, Program}
-use Rattle.st_program.specs.WellFormed.{IsWellFormed}
-use Rattle.st_meaning.specs.Courses.{and_then}
-use Rattle.st_meaning.specs.Meaning.{Calls, course_of}
-use Rattle.st_meaning.specs.Plain.{Cell, cells_read, check_course}
-use Rattle.st_meaning.specs.Safe.{AreOfKinds}
+use Rattle.st_resolved.specs.Terms.{Term, Program}
+use Rattle.st_resolved.specs.WellFormed.{IsWellFormed}
+use Rattle.st_check_meaning.specs.Courses.{and_then}
+use Rattle.st_check_meaning.specs.Meaning.{Calls, course_of}
+use Rattle.st_check_meaning.specs.Plain.{Cell, cells_read, check_course}
+use Rattle.st_check_meaning.specs.Safe.{AreOfKinds}
 use Rattle.st_eval.specs.Replies.{IsWordOf, AreWordsOf, AsksWell}
 use Rattle.st_eval.specs.StraightCode.{code_of, code_course}
 

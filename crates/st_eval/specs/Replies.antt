@@ -3,7 +3,7 @@ use Rattle.std.specs.Prelude.{◌≡◌, ◌≤◌, ◌<◌, ◌^◌, ℕ, List,
 use Rattle.st_events.specs.declared.shapes.Kind.{Kind}
 use Rattle.st_events.specs.declared.shapes.Kind.TheVariants.{Int, Bool, Ref}
 use Rattle.st_events.specs.Shape.{ShapeLists, kinds_of}
-use Rattle.st_meaning.specs.Courses.{Course, comes_to, ends_in, reads, uses_unit}
+use Rattle.st_check_meaning.specs.Courses.{Course, comes_to, ends_in, reads, uses_unit}
 
 -- any word is one of kind Int; 0 and 1 are those of Bool; a word of a class kind is any number of 32 bits
 abbrev pub IsWordOf : Kind → ℕ → Type 0

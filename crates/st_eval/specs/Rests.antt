@@ -1,11 +1,11 @@
 -- What is left of an evaluation: the course of the body that runs, and then, with what it comes to, of those that wait.
 use Rattle.std.specs.Prelude.{ℕ, ◌-◌, List, [], ◌∷◌, length}
-use Rattle.st_meaning.specs.declared.limits.TheConstants.{MOST_DEPTH}
-use Rattle.st_program.specs.Terms.{Predicate}
+use Rattle.st_check_meaning.specs.declared.limits.TheConstants.{MOST_DEPTH}
+use Rattle.st_resolved.specs.Terms.{Predicate}
 use Rattle.st_eval.specs.declared.instructions.Instruction.{Instruction}
-use Rattle.st_meaning.specs.Courses.{Course, comes_to, and_then}
-use Rattle.st_meaning.specs.Meaning.{Calls, call_within}
-use Rattle.st_meaning.specs.Turns.{Turn, asks, is_over, turn_of}
+use Rattle.st_check_meaning.specs.Courses.{Course, comes_to, and_then}
+use Rattle.st_check_meaning.specs.Meaning.{Calls, call_within}
+use Rattle.st_check_meaning.specs.Turns.{Turn, asks, is_over, turn_of}
 use Rattle.st_eval.specs.StraightCode.{code_course}
 use Rattle.st_eval.specs.Activations.{Activation, Activations, pushed}
 use Rattle.st_eval.specs.Steps.{Step, goes_on, asks_for, ends, part}

@@ -1,7 +1,7 @@
 -- What steps, one after another, come to.
 use Rattle.std.specs.Prelude.{◌≡◌, ℕ}
-use Rattle.st_program.specs.Terms.{Program}
-use Rattle.st_meaning.specs.Turns.{Turn, asks, is_over, turn_of}
+use Rattle.st_resolved.specs.Terms.{Program}
+use Rattle.st_check_meaning.specs.Turns.{Turn, asks, is_over, turn_of}
 use Rattle.st_eval.specs.declared.asks.Ask.{Ask}
 use Rattle.st_eval.specs.declared.asks.Ask.TheVariants.{Read, Done}
 use Rattle.st_eval.specs.declared.program_codes.ProgramCode.{ProgramCode}

@@ -3,16 +3,16 @@ use Rattle.std.specs.Prelude.{ℕ, ◌-◌, ◌==◌, not, if◌then◌else◌, 
 use Rattle.st_events.specs.declared.heaps.TheConstants.{SHARED_OBJECT}
 use Rattle.st_events.specs.declared.verdicts.Plain.{Plain}
 use Rattle.st_events.specs.declared.verdicts.Plain.TheVariants.{Null, Deep, Spent}
-use Rattle.st_meaning.specs.declared.limits.TheConstants.{MOST_DEPTH}
+use Rattle.st_check_meaning.specs.declared.limits.TheConstants.{MOST_DEPTH}
 use Rattle.st_eval.specs.declared.asks.Ask.{Ask}
 use Rattle.st_eval.specs.declared.asks.Ask.TheVariants.{Read, Done}
 use Rattle.st_eval.specs.declared.frames.Span.{Span}
 use Rattle.st_eval.specs.declared.instructions.Instruction.{Instruction}
 use Rattle.st_eval.specs.declared.instructions.Instruction.TheVariants.{Push, Local, Shared, Field, Not, Minus, Binary, Both, Either, Test, Skip, Call}
-use Rattle.st_meaning.specs.Courses.{Course, comes_to, ends_in}
-use Rattle.st_meaning.specs.Meaning.{operate}
-use Rattle.st_meaning.specs.Numbers.{number_of, word_of_truth, is_true, number_or_overflow}
-use Rattle.st_meaning.specs.Plain.{verdict_of}
+use Rattle.st_check_meaning.specs.Courses.{Course, comes_to, ends_in}
+use Rattle.st_check_meaning.specs.Meaning.{operate}
+use Rattle.st_check_meaning.specs.Numbers.{number_of, word_of_truth, is_true, number_or_overflow}
+use Rattle.st_check_meaning.specs.Plain.{verdict_of}
 use Rattle.st_eval.specs.Activations.{Activations, top_word, local_word, pushed, popped, onward, past, entered, resumed}
 
 -- a step goes on, with so many units left; it asks for a cell, whose word is to be pushed; or the check is over, and this is left

@@ -3,11 +3,11 @@ use Rattle.std.specs.Prelude.{ℕ, zero, suc, true, false, not, List, [], ◌∷
 use Rattle.st_events.specs.declared.heaps.TheConstants.{SHARED_OBJECT}
 use Rattle.st_eval.specs.declared.instructions.Instruction.{Instruction}
 use Rattle.st_eval.specs.declared.instructions.Instruction.TheVariants.{Push, Local, Shared, Field, Not, Minus, Binary, Both, Either, Test, Skip, Call}
-use Rattle.st_program.specs.Terms.{Term, a_number, a_truth, a_null, a_local, a_shared, a_field, a_not, a_minus, a_binary, a_both, an_either, a_cond, a_call}
-use Rattle.st_program.specs.Terms.{Terms, no_terms, term_then}
-use Rattle.st_meaning.specs.Courses.{Course, comes_to, and_then}
-use Rattle.st_meaning.specs.Numbers.{number_of, word_of_number, word_of_truth, is_true, number_or_overflow}
-use Rattle.st_meaning.specs.Meaning.{Calls, truth, operate, read_cell, field_of}
+use Rattle.st_resolved.specs.Terms.{Term, a_number, a_truth, a_null, a_local, a_shared, a_field, a_not, a_minus, a_binary, a_both, an_either, a_cond, a_call}
+use Rattle.st_resolved.specs.Terms.{Terms, no_terms, term_then}
+use Rattle.st_check_meaning.specs.Courses.{Course, comes_to, and_then}
+use Rattle.st_check_meaning.specs.Numbers.{number_of, word_of_number, word_of_truth, is_true, number_or_overflow}
+use Rattle.st_check_meaning.specs.Meaning.{Calls, truth, operate, read_cell, field_of}
 
 -- how many arguments
 abbrev pub count_of : Terms → ℕ

@@ -1,10 +1,10 @@
 //! The code of an expression.
 ghost use Rattle.std.specs.Prelude.{◌≡◌, suc, ◌∷◌, ◌++◌, length, OnOk, IfOk};
-ghost use Rattle.st_program.specs.Views.{term_of, args_of};
+ghost use Rattle.st_resolved.specs.Views.{term_of, args_of};
 ghost use Rattle.st_eval.specs.StraightCode.{code_of, codes_of, count_of};
 
 use crate::instructions::Instruction;
-use st_program::{Expr, Items};
+use st_resolved::{Expr, Items};
 use std::alloc::{AllocError, Global};
 
 /// The code of an expression, alone.

@@ -1,9 +1,9 @@
 //! The evaluator of checks.
 ghost use Rattle.std.specs.Prelude.{◌≡◌, ◌≤◌, ◌+◌, ◌*◌, ℕ, List, length, IfOk};
 ghost use Rattle.st_events.specs.Heap.{Heap};
-ghost use Rattle.st_program.specs.Views.{program_of};
-ghost use Rattle.st_meaning.specs.Plain.{check_course};
-ghost use Rattle.st_meaning.specs.Turns.{turn_of};
+ghost use Rattle.st_resolved.specs.Views.{program_of};
+ghost use Rattle.st_check_meaning.specs.Plain.{check_course};
+ghost use Rattle.st_check_meaning.specs.Turns.{turn_of};
 ghost use Rattle.st_eval.specs.Bodies.{IsCodeOf};
 ghost use Rattle.st_eval.specs.Evaluations.{words_of, begun, IsMadeFor, budget, turn_by, IsTurn, IsAfterCells, AnswersInOrder};
 ghost use Rattle.st_eval.specs.Room.{IsRunning};
@@ -14,9 +14,9 @@ use crate::frames::Span;
 use crate::program_codes::{ProgramCode, span_of};
 use crate::stacks::Stack;
 use crate::steps::step;
+use st_check_meaning::MOST_DEPTH;
 use st_events::{Args, MOST_ARGS, NoMemory};
-use st_meaning::MOST_DEPTH;
-use st_program::Resolved;
+use st_resolved::Resolved;
 use std::alloc::{AllocError, Global};
 
 /// Evaluates the checks of one program, one at a time, over a heap that it never holds: it asks for one cell at a time. All its

@@ -1,7 +1,7 @@
 //! Instructions for a stack of words.
 
 use st_events::Site;
-use st_program::Operator;
+use st_resolved::Operator;
 
 /// What an instruction does to the stack of words. A count passes over so many of the instructions that follow.
 #[derive(Clone, Copy, Debug, PartialEq, Eq)]

@@ -1,12 +1,12 @@
 //! What operators make of words.
 ghost use Rattle.std.specs.Prelude.{◌≡◌, ℤ, SomeIff, FitsSigned, neg_ℤ};
 ghost use Rattle.std.specs.Int.{w64};
-ghost use Rattle.st_meaning.specs.Numbers.{number_of, number_or_overflow};
-ghost use Rattle.st_meaning.specs.Meaning.{operate, quotient, remainder};
+ghost use Rattle.st_check_meaning.specs.Numbers.{number_of, number_or_overflow};
+ghost use Rattle.st_check_meaning.specs.Meaning.{operate, quotient, remainder};
 ghost use Rattle.st_eval.specs.Outcomes.{outcome};
 
 use st_events::{Plain, Site};
-use st_program::Operator;
+use st_resolved::Operator;
 
 /// What an operator gives for the words of its operands, or its fault, told at its mark.
 pub(crate) fn operate(operator: Operator, left: u64, right: u64, at: Site) -> Result<u64, Plain>

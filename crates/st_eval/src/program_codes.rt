@@ -1,6 +1,6 @@
 //! The code of a whole program.
 ghost use Rattle.std.specs.Prelude.{◌≡◌, ◌+◌, ◌≤◌, ◌++◌, [], ◌∷◌, suc, length, map, IfOk, OnOk};
-ghost use Rattle.st_program.specs.Views.{term_of, check_of, predicate_of, program_of};
+ghost use Rattle.st_resolved.specs.Views.{term_of, check_of, predicate_of, program_of};
 ghost use Rattle.st_eval.specs.StraightCode.{code_of};
 ghost use Rattle.st_eval.specs.Room.{growth, grown};
 ghost use Rattle.st_eval.specs.Steps.{span_of};
@@ -9,7 +9,7 @@ ghost use Rattle.st_eval.specs.Bodies.{AreBodies, IsCodeOf, LaysBodies, check_bo
 use crate::compiling::code_alone;
 use crate::frames::Span;
 use crate::instructions::Instruction;
-use st_program::{Check, Expr, Items, Pred, Resolved};
+use st_resolved::{Check, Expr, Items, Pred, Resolved};
 use std::alloc::{AllocError, Global};
 
 /// The code of a program: that of all bodies in one list.

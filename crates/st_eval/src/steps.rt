@@ -1,6 +1,6 @@
 //! One step of an evaluation.
 ghost use Rattle.std.specs.Prelude.{◌≡◌, ◌≢◌, ◌≤◌, ◌<◌, ℕ, [], length, slice_get, MatchOption, unwrap_or};
-ghost use Rattle.st_meaning.specs.Plain.{verdict_of};
+ghost use Rattle.st_check_meaning.specs.Plain.{verdict_of};
 ghost use Rattle.st_eval.specs.Activations.{onward, popped, resumed, top_word};
 ghost use Rattle.st_eval.specs.Outcomes.{outcome};
 ghost use Rattle.st_eval.specs.Room.{HasOneRoom, Needs, NeedsNext, NeedsStep};
@@ -12,9 +12,9 @@ use crate::instructions::Instruction;
 use crate::operators::{negate, operate};
 use crate::program_codes::span_of;
 use crate::stacks::Stack;
+use st_check_meaning::MOST_DEPTH;
 use st_events::{Plain, SHARED_OBJECT, Site};
-use st_meaning::MOST_DEPTH;
-use st_program::Operator;
+use st_resolved::Operator;
 
 /// One step: the next instruction is done, or the body that runs is at its end. Answers nothing where the evaluation goes on.
 pub(crate) fn step(

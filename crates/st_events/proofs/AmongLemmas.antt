@@ -1,6 +1,6 @@
 -- Numbers of a list: one more at the end, all but one, those that pass a test
 use Rattle.std.proofs.Common.{◌≡◌, ◌≢◌, ℕ, ◌<◌, ◌≤◌, ◌==◌, cond, not, Bool, true, false, ◌⊎◌, inl, inr, List, [], ◌∷◌}
-use Rattle.std.proofs.Common.{◌++◌, length, refl, sym, ◌∙◌, ap, subst, arith, filter}
+use Rattle.std.proofs.Common.{◌++◌, zero, suc, length, get_or, remove, refl, sym, ◌∙◌, ap, subst, arith, filter}
 use Rattle.std.specs.Prelude.{◌||◌}
 use Rattle.std.proofs.lemmas.Bool.Decides.{eqb_tells, nat_tests}
 use Rattle.st_events.specs.Terms.{is_among, without}
@@ -119,3 +119,25 @@ one_more_is_rising (x ∷ xs) k r below = (first, one_more_is_rising xs k r.1 (�
   where
     first : (j : ℕ) → is_among (xs ++ k ∷ []) j ≡ true → x < j
     first j h = elim (among_one_more xs k j h) [ inl a ↦ r.0 j a | inr e ↦ rw e (below x (or_first (x == x) (is_among xs x) (same_number x))) ]
+
+-- the test for equal numbers
+same_true : (a b : ℕ) → a ≡ b → (a == b) ≡ true
+same_true a b h = grind (arith, nat_tests)
+
+-- taking out a number that stands there
+pub remove_then_without :
+    (number : ℕ) (xs : List ℕ) (p : ℕ)
+    → p < length xs
+    → get_or xs p 0 ≡ number
+    → without number (remove xs p) ≡ without number xs
+remove_then_without number [] p h e = absurd (omega arith)
+remove_then_without number (x ∷ xs) zero h e = rw (same_true x number e) refl
+remove_then_without number (x ∷ xs) (suc p) h e = ap (λ ys. cond (not (x == number)) (x ∷ ys) ys) (remove_then_without number xs p (omega arith) e)
+
+-- a list without the number stays as it is
+pub without_what_is_absent : (number : ℕ) (xs : List ℕ) → ((k : ℕ) → k < length xs → get_or xs k 0 ≢ number) → without number xs ≡ xs
+without_what_is_absent number [] h = refl
+without_what_is_absent number (x ∷ xs) h = elim (eqb_tells x number) [
+  | inl e ↦ absurd (h 0 (omega arith) e.1)
+  | inr e ↦ rw e.0 (ap (λ ys. x ∷ ys) (without_what_is_absent number xs (λ k lt. h (suc k) (omega arith))))
+]

@@ -38,7 +38,8 @@ change_extends heap obj field value = record {
   ];
 }
 
-next_extends :
+-- the heap after a legal event extends the heap before it
+pub next_extends :
     (shape : ShapeLists) (sizes : Sizes) (w : World) (e : Event)
     → IsSoundWorld shape sizes w
     → IsLegalNext shape sizes w e
@@ -75,7 +76,8 @@ heap_extends shape sizes limits es fs l =
 
 -- ---- launches
 
-next_keeps_launch :
+-- what is known of a launch stays at a legal event
+pub next_keeps_launch :
     (shape : ShapeLists) (sizes : Sizes) (w : World) (e : Event) (n : ℕ) (x : Launched)
     → IsSoundWorld shape sizes w
     → IsLegalNext shape sizes w e

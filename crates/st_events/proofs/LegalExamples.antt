@@ -1,5 +1,5 @@
 -- Events with one fault each, and the reasons that the definitions give, computed by the prover
-use Rattle.std.proofs.Common.{◌≡◌, ℕ, true, false, List, [], ◌∷◌, Option, Some, None, refl}
+use Rattle.std.proofs.Common.{◌≡◌, ℕ, true, false, List, [], ◌∷◌, map, Option, Some, None, refl}
 use Rattle.st_events.specs.declared.errors.Why.{Why}
 use Rattle.st_events.specs.declared.errors.Why.TheVariants.{WrongThread, WrongObject, WrongField, WrongNumber, WrongSite, WrongValue, WrongDone, NoLane}
 use Rattle.st_events.specs.declared.shapes.Kind.TheVariants.{Int, Bool as Truth, Ref}
@@ -142,3 +142,56 @@ main_retires = refl
 
 nobody_retires : reason_after full_lanes (Retire 3 1) ≡ Some WrongThread
 nobody_retires = refl
+
+-- ---- the reasons of one event, in their order: after one object of class 1, with one thread, one lane and two objects
+abbrev one_thread : Sizes
+one_thread = record { mutators = 1; lanes = 1; objects = 2; copies = 4; events = 100; calls = 10 }
+
+abbrev reason_of : Event → Option Why
+reason_of e = illegal_reason shape one_thread (world_after shape one_thread (New 0 2 1 ∷ [])) e
+
+reasons_of_new :
+    map reason_of (New 1 9 9 ∷ New 0 2 9 ∷ New 0 4 1 ∷ New 0 3 0 ∷ New 0 3 3 ∷ New 0 3 2 ∷ [])
+    ≡ Some WrongThread ∷ Some WrongObject ∷ Some WrongObject ∷ Some WrongField ∷ Some WrongField ∷ None ∷ []
+reasons_of_new = refl
+
+reasons_of_load :
+    map reason_of (Load 1 9 9 9 ∷ Load 0 0 9 9 ∷ Load 0 1 1 9 ∷ Load 0 2 0 9 ∷ Load 0 2 0 0 ∷ [])
+    ≡ Some WrongThread ∷ Some WrongObject ∷ Some WrongField ∷ Some WrongValue ∷ None ∷ []
+reasons_of_load = refl
+
+reasons_of_store :
+    map reason_of (Store 1 9 9 9 ∷ Store 0 3 0 9 ∷ Store 0 2 3 9 ∷ Store 0 2 1 2 ∷ Store 0 2 2 1 ∷ Store 0 2 2 3 ∷ [])
+    ≡ Some WrongThread ∷ Some WrongObject ∷ Some WrongField ∷ Some WrongValue ∷ Some WrongValue ∷ Some WrongValue ∷ []
+reasons_of_store = refl
+
+reasons_of_cas :
+    map reason_of (
+    Cas 1 9 9 9 9 true ∷ Cas 0 9 9 9 9 true ∷ Cas 0 2 9 9 9 true ∷ Cas 0 2 1 2 0 true ∷ Cas 0 2 1 0 2 true ∷ Cas 0 2 1 1 2 false ∷ Cas 0 2 1 0 1 false
+    ∷ Cas 0 2 1 1 0 true ∷ []
+    )
+    ≡ Some WrongThread ∷ Some WrongObject ∷ Some WrongField ∷ Some WrongValue ∷ Some WrongValue ∷ Some WrongValue ∷ Some WrongDone ∷ Some WrongDone ∷ []
+reasons_of_cas = refl
+
+reasons_of_launch :
+    map reason_of (
+    Launch 1 9 9 (args 0 0 0) ∷ Launch 0 9 2 (args 0 0 0) ∷ Launch 0 0 0 (args 0 0 0) ∷ Launch 0 3 1 (args 0 0 0) ∷ Launch 0 1 1 (args 0 0 0)
+    ∷ Launch 0 1 1 (args 1 1 0) ∷ Launch 0 1 1 (args 1 2 7) ∷ Launch 0 1 1 (args 2 2 0) ∷ Launch 0 2 1 (args 1 2 0) ∷ Launch 0 2 1 (args 2 2 2) ∷ []
+    )
+    ≡ Some WrongThread ∷ Some WrongNumber ∷ Some WrongNumber ∷ Some WrongSite ∷ Some WrongValue ∷ Some WrongValue ∷ Some WrongValue ∷ Some WrongValue
+    ∷ Some WrongValue ∷ Some WrongValue ∷ []
+reasons_of_launch = refl
+
+reasons_of_retire : map reason_of (Retire 2 1 ∷ Retire 1 1 ∷ []) ≡ Some WrongThread ∷ Some WrongNumber ∷ []
+reasons_of_retire = refl
+
+-- a full set of lanes is the last reason of a Launch; a check is retired once, by any mutator or the main thread
+abbrev reason_after_launch : Event → Option Why
+reason_after_launch e = illegal_reason shape one_thread (world_after shape one_thread (Launch 0 0 1 (args 0 0 0) ∷ [])) e
+
+reasons_after_a_launch :
+    map reason_after_launch (
+    Launch 0 0 3 (args 0 0 0) ∷ Launch 0 3 2 (args 0 0 0) ∷ Launch 0 1 2 (args 1 1 0) ∷ Launch 0 0 2 (args 0 0 0) ∷ Retire 0 1 ∷ Retire 1 1 ∷ Retire 2 1 ∷ []
+    )
+    ≡ Some WrongNumber ∷ Some WrongSite ∷ Some WrongValue ∷ Some NoLane ∷ None ∷ None ∷ Some WrongThread ∷ []
+reasons_after_a_launch = refl

@@ -3,6 +3,7 @@ pub mod AlikeLemmas
 mod AllLemmas
 pub mod AmongLemmas
 mod CellLemmas
+pub mod ChargeLemmas
 pub mod CountLemmas
 mod Examples
 pub mod ExtendsLemmas

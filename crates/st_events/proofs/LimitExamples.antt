@@ -1,7 +1,7 @@
 -- Each limit and each number that a definition takes from the code, pinned by its value
 use Rattle.std.proofs.Common.{◌≡◌, refl}
 use Rattle.st_events.specs.declared.heaps.TheConstants.{FIRST_OF_REGIONS, SHARED_OBJECT}
-use Rattle.st_events.specs.declared.limits.TheConstants.{MOST_MUTATORS, MOST_LANES, MOST_OBJECTS, MOST_COPIES, MOST_EVENTS, MOST_CALLS}
+use Rattle.st_events.specs.declared.limits.TheConstants.{EVENT_COST, LAUNCH_COST, MOST_MUTATORS, MOST_LANES, MOST_OBJECTS, MOST_COPIES, MOST_EVENTS, MOST_CALLS}
 use Rattle.st_events.specs.declared.limits.TheConstants.{USUAL_LANES, USUAL_OBJECTS, USUAL_COPIES, USUAL_EVENTS, USUAL_CALLS}
 use Rattle.st_events.specs.declared.shapes.TheConstants.{MOST_CLASSES, MOST_FIELDS, MOST_CHECKS, MOST_ARGS}
 
@@ -41,6 +41,14 @@ usual_events = refl
 
 usual_calls : USUAL_CALLS ≡ 100000
 usual_calls = refl
+
+-- ---- what is charged
+
+event_cost : EVENT_COST ≡ 1
+event_cost = refl
+
+launch_cost : LAUNCH_COST ≡ 2
+launch_cost = refl
 
 -- ---- shapes
 

@@ -1,10 +1,10 @@
 -- What the steps of a replay ask of lists and tests
-use Rattle.std.proofs.Common.{◌≡◌, ◌≢◌, inl, inr, ℕ, zero, suc, ◌-◌, ◌<◌, ◌≤◌, ◌==◌, cond, not, true, false, List, []}
-use Rattle.std.proofs.Common.{◌∷◌, length, drop, take, get_or, remove, refl, subst, ap, arith}
+use Rattle.std.proofs.Common.{◌≡◌, ℕ, zero, suc, ◌-◌, ◌<◌, ◌≤◌, true, false, List, []}
+use Rattle.std.proofs.Common.{◌∷◌, length, drop, take, refl, subst, ap, arith}
 use Rattle.std.specs.Prelude.{nat_lt}
 use Rattle.std.specs.List.{slice_range}
-use Rattle.std.proofs.lemmas.Bool.Decides.{nat_tests, eqb_tells}
-use Rattle.st_events.specs.Terms.{Kind, Heap, without}
+use Rattle.std.proofs.lemmas.Bool.Decides.{nat_tests}
+use Rattle.st_events.specs.Terms.{Kind, Heap}
 use Rattle.st_events.specs.Legal.{have_kinds}
 
 -- where the words have ended and a kind is left
@@ -42,25 +42,3 @@ rest_of_slice (x ∷ xs) (suc n) = let e : suc (length xs) - suc n ≡ length xs
 -- tests that hold
 pub below_true : (a b : ℕ) → a < b → nat_lt a b ≡ true
 below_true a b h = grind (arith, nat_tests)
-
--- the same of the test for equal numbers
-pub same_true : (a b : ℕ) → a ≡ b → (a == b) ≡ true
-same_true a b h = grind (arith, nat_tests)
-
--- taking out a number that stands there
-pub remove_then_without :
-    (number : ℕ) (xs : List ℕ) (p : ℕ)
-    → p < length xs
-    → get_or xs p 0 ≡ number
-    → without number (remove xs p) ≡ without number xs
-remove_then_without number [] p h e = absurd (omega arith)
-remove_then_without number (x ∷ xs) zero h e = rw (same_true x number e) refl
-remove_then_without number (x ∷ xs) (suc p) h e = ap (λ ys. cond (not (x == number)) (x ∷ ys) ys) (remove_then_without number xs p (omega arith) e)
-
--- a list without the number stays as it is
-pub without_what_is_absent : (number : ℕ) (xs : List ℕ) → ((k : ℕ) → k < length xs → get_or xs k 0 ≢ number) → without number xs ≡ xs
-without_what_is_absent number [] h = refl
-without_what_is_absent number (x ∷ xs) h = elim (eqb_tells x number) [
-  | inl e ↦ absurd (h 0 (omega arith) e.1)
-  | inr e ↦ rw e.0 (ap (λ ys. x ∷ ys) (without_what_is_absent number xs (λ k lt. h (suc k) (omega arith))))
-]

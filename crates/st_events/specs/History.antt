@@ -1,9 +1,10 @@
 -- What a journal says, by name: its heap, epoch, stamps, checks, rows and pairs, and the events of a thread.
 use Rattle.std.specs.Prelude.{◌≡◌, ℕ, ◌+◌, ◌==◌, Bool, true, false, List, ◌∷◌, ◌++◌, length, filter, Option}
-use Rattle.std.specs.List.{list_any}
+use Rattle.std.specs.List.{list_any, sum_by}
 use Rattle.st_events.specs.declared.events.Event.{Event}
 use Rattle.st_events.specs.declared.events.Event.TheVariants.{New, Load, Store, Cas, Launch, Retire}
 use Rattle.st_events.specs.declared.limits.Sizes.{Sizes}
+use Rattle.st_events.specs.declared.limits.TheConstants.{EVENT_COST, LAUNCH_COST}
 use Rattle.st_events.specs.Shape.{ShapeLists}
 use Rattle.st_events.specs.Heap.{Heap}
 use Rattle.st_events.specs.World.{Launched, Row, Pair, world_after, needing_in}
@@ -52,6 +53,15 @@ pub record IsLaunchIn (shape : ShapeLists) (sizes : Sizes) (es : List Event) (nu
   pub split : es ≡ before ++ Launch launch.thread launch.site number launch.args ∷ rest
   pub past : launch.past ≡ heap_after shape sizes before
 
+-- the mutator that made the event; of a Retire it may be the main thread
+abbrev pub thread_of : Event → ℕ
+thread_of (New m obj class) = m
+thread_of (Load m obj field value) = m
+thread_of (Store m obj field value) = m
+thread_of (Cas m obj field expect value done) = m
+thread_of (Launch m site number args) = m
+thread_of (Retire m number) = m
+
 -- whether the event is an own one of the thread; a Retire is nobody's own
 abbrev pub is_own : ℕ → Event → Bool
 is_own thread (New m obj class) = m == thread
@@ -92,6 +102,19 @@ has_launch n es = list_any (is_launch_of n) es
 -- the thread's own events, in order
 abbrev pub own_events : ℕ → List Event → List Event
 own_events thread es = filter (is_own thread) es
+
+-- what an event takes of its mutator's charge: a launch pays for the Retire of its check, which takes nothing
+abbrev pub charge_of : Event → ℕ
+charge_of (New m obj class) = EVENT_COST
+charge_of (Load m obj field value) = EVENT_COST
+charge_of (Store m obj field value) = EVENT_COST
+charge_of (Cas m obj field expect value done) = EVENT_COST
+charge_of (Launch m site number args) = LAUNCH_COST
+charge_of (Retire m number) = 0
+
+-- what events take of the charge in all
+abbrev pub charge_of_all : List Event → ℕ
+charge_of_all es = sum_by charge_of es
 
 -- whether the event makes an object
 abbrev pub is_new : Event → Bool

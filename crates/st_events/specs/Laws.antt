@@ -1,5 +1,5 @@
 -- The laws of all journals: of every shape, all sizes and any events.
-use Rattle.std.specs.Prelude.{◌≡◌, ℕ, ◌*◌, ◌+◌, ◌≤◌, ◌⊎◌, Bool, true, false, List, [], ◌∷◌, ◌++◌, length, filter, All, Some}
+use Rattle.std.specs.Prelude.{◌≡◌, ℕ, ◌*◌, ◌/◌, ◌+◌, ◌≤◌, ◌<◌, ◌⊎◌, Bool, true, false, List, [], ◌∷◌, ◌++◌, length, filter, All, Some}
 use Rattle.st_events.specs.declared.events.Args.{Args}
 use Rattle.st_events.specs.declared.events.Event.{Event}
 use Rattle.st_events.specs.declared.events.Event.TheVariants.{Launch, Retire}
@@ -9,7 +9,7 @@ use Rattle.st_events.specs.Shape.{ShapeLists, IsWithinLimits}
 use Rattle.st_events.specs.World.{Launched, next, world_after, is_among, is_lost}
 use Rattle.st_events.specs.Legal.{IsLegal, IsLegalNext}
 use Rattle.st_events.specs.History.{heap_after, epoch_of, made_by, active_checks, launch_of, lost_pairs, objects_of}
-use Rattle.st_events.specs.History.{IsLaunchIn, IsRetireIn, is_launch, is_new_of}
+use Rattle.st_events.specs.History.{IsLaunchIn, IsRetireIn, is_launch, is_new_of, own_events, charge_of_all}
 use Rattle.st_events.specs.Judge.{IsJudge, IsRightByLaunch, AllowsMoreLost}
 use Rattle.st_events.specs.Words.{BringsWords, HoldsWords, IsLaunchOfWords}
 use Rattle.st_events.specs.Sound.{Extends, IsSoundWorld}
@@ -124,6 +124,14 @@ pub record CountEvents : Type 0 where
   pub made :
       (shape : ShapeLists) (sizes : Sizes) (es : List Event) (m : ℕ)
       → made_by shape sizes es m ≡ length (filter (is_new_of m) es)
+
+-- where no mutator's own events take more than its charge, the launches of a legal journal are at most as many as all charges pay for, two for each
+abbrev pub PayForLaunches : Type 0
+PayForLaunches =
+    (shape : ShapeLists) (sizes : Sizes) (es : List Event)
+    → IsLegal shape sizes es
+    → ((m : ℕ) → m < sizes.mutators → charge_of_all (own_events m es) ≤ sizes.events)
+    → epoch_of shape sizes es ≤ sizes.mutators * (sizes.events / 2)
 
 -- where the events bring words, the heap after them holds words, and so does each launch
 pub record KeepWords : Type 0 where

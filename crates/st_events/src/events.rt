@@ -1,4 +1,5 @@
 //! The events of a heap. The place of an event in a journal, from 0, is its ticket.
+ghost use Rattle.std.specs.Prelude.{◌≡◌};
 
 use crate::shapes::MOST_ARGS;
 
@@ -66,6 +67,38 @@ pub enum Event {
         m: u8,
         number: u32,
     },
+}
+
+impl Event {
+    ghost use Rattle.st_events.specs.History.{thread_of, is_own};
+
+    /// The number of the mutator that made it; of a Retire it may be the main thread's.
+    pub fn thread(&self) -> u8
+        ensures { result ≡ thread_of self.now }
+    {
+        match *self {
+            Event::New { m, .. } => m,
+            Event::Load { m, .. } => m,
+            Event::Store { m, .. } => m,
+            Event::Cas { m, .. } => m,
+            Event::Launch { m, .. } => m,
+            Event::Retire { m, .. } => m,
+        }
+    }
+
+    /// Whether it is one of the thread's own events, which its code asks for. A Retire is nobody's own, whoever made it.
+    pub fn is_own_of(&self, thread: u8) -> bool
+        ensures { result ≡ is_own thread self.now }
+    {
+        match *self {
+            Event::New { m, .. } => m == thread,
+            Event::Load { m, .. } => m == thread,
+            Event::Store { m, .. } => m == thread,
+            Event::Cas { m, .. } => m == thread,
+            Event::Launch { m, .. } => m == thread,
+            Event::Retire { .. } => false,
+        }
+    }
 }
 
 /// An event takes six words of 64 bits.

@@ -15,7 +15,7 @@ use std::marker::Model;
 pub const SHARED_OBJECT: u32 = 1;
 
 /// What stands at one number: an object, if one was made.
-#[derive(Clone, Copy, Debug)]
+#[derive(Clone, Copy)]
 struct Cell {
     class: Option<u8>,
     /// How many of the words are fields of the class; the others are 0.
@@ -27,7 +27,7 @@ struct Cell {
 pub const FIRST_OF_REGIONS: usize = 2;
 
 /// A heap with room for the shared object and every mutator's region. Contracts see what stands at each number.
-#[derive(Debug, Drop)]
+#[derive(Drop)]
 pub struct HeapMap {
     cells: Vec<Cell>,
 }

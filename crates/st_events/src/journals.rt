@@ -8,7 +8,7 @@ use std::marker::Model;
 
 /// A list of events in the order of their tickets. Contracts see the list, and beside it the spare: how many more
 /// events it takes without asking for memory.
-#[derive(Debug, Drop)]
+#[derive(Drop)]
 pub struct Journal {
     events: Vec<Event>,
     spare: u32,

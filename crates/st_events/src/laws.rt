@@ -1,7 +1,7 @@
 //! Laws of all journals, over the definitions of this crate. Nothing is computed: each call states a theorem, by its clauses.
 ghost use Rattle.st_events.specs.LegalEvents.{TellOfEvents};
 ghost use Rattle.st_events.specs.Laws.{HaveSoundWorlds, GrowByEvents, HaveLegalPrefixes, KeepThePast, LoseNothing, TellOfLaunches};
-ghost use Rattle.st_events.specs.Laws.{TellOfRetires, CountEvents, KeepWords, JudgeByLaunches};
+ghost use Rattle.st_events.specs.Laws.{TellOfRetires, CountEvents, PayForLaunches, KeepWords, JudgeByLaunches};
 
 /// What holds of all journals, however long, of every program and all sizes.
 pub fn laws_of_journals()
@@ -13,6 +13,7 @@ pub fn laws_of_journals()
     ensures launches { TellOfLaunches }
     ensures retires { TellOfRetires }
     ensures counts { CountEvents }
+    ensures charge { PayForLaunches }
     ensures words { KeepWords }
     ensures judges { JudgeByLaunches }
     ensures pool { LoseNothing }

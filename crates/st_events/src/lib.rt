@@ -24,8 +24,8 @@ pub use journals::Journal;
 pub use judges::Judge;
 pub use laws::laws_of_journals;
 pub use limits::{
-    MOST_CALLS, MOST_COPIES, MOST_EVENTS, MOST_LANES, MOST_MUTATORS, MOST_OBJECTS, Sizes,
-    USUAL_CALLS, USUAL_COPIES, USUAL_EVENTS, USUAL_LANES, USUAL_OBJECTS,
+    EVENT_COST, LAUNCH_COST, MOST_CALLS, MOST_COPIES, MOST_EVENTS, MOST_LANES, MOST_MUTATORS,
+    MOST_OBJECTS, Sizes, USUAL_CALLS, USUAL_COPIES, USUAL_EVENTS, USUAL_LANES, USUAL_OBJECTS,
 };
 pub use replays::replay;
 pub use runs::Ran;

@@ -25,6 +25,11 @@ pub const USUAL_EVENTS: u32 = 65_536;
 /// The budget of each check where nothing else is asked for.
 pub const USUAL_CALLS: u32 = 100_000;
 
+/// What an event takes of its mutator's charge.
+pub const EVENT_COST: u32 = 1;
+/// What a launch takes of it: the Retire of its check is paid, too.
+pub const LAUNCH_COST: u32 = 2;
+
 /// The sizes of a run.
 #[derive(Clone, Copy, Debug, PartialEq, Eq)]
 pub struct Sizes {

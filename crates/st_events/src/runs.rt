@@ -6,7 +6,7 @@ use crate::verdicts::{End, Verdict};
 use std::marker::Model;
 
 /// All that a run leaves, from which every output is written. Contracts see it as lists and a number.
-#[derive(Debug, Drop)]
+#[derive(Drop)]
 pub struct Ran {
     /// All events, in the order of their tickets.
     pub journal: Vec<Event>,

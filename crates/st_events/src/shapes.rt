@@ -26,7 +26,7 @@ pub enum Kind {
 }
 
 /// What the heap knows of a program. Contracts see it as lists.
-#[derive(Debug, Drop)]
+#[derive(Drop)]
 pub struct Shape {
     /// The kinds of the fields of each class; class 0 is the shared object's.
     pub classes: Vec<Vec<Kind>>,

@@ -3,7 +3,5 @@
 
 mod generating;
 mod pieces;
-#[cfg(test)]
-mod tests;
 
 pub use generating::{MOST_TURNS, generate};

@@ -1,4 +1,3 @@
-pub mod ReadLemmas
-pub mod SampleLemmas
-pub mod FaultLemmas
-pub mod ReaderLemmas
+pub mod FirstLemmas
+pub mod ItemLemmas
+pub mod SortLemmas

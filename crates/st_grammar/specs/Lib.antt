@@ -1,4 +1,9 @@
-pub mod Charts
-pub mod Checks
-pub mod Reads
-pub mod Texts
+pub mod Counts
+pub mod FirstFault
+pub mod Firsts
+pub mod Grammar
+pub mod Mentions
+pub mod Operators
+pub mod Sorts
+pub mod Terminals
+pub mod TokenLimits

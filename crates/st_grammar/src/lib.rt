@@ -1,13 +1,20 @@
-//! Where a list of tokens first goes wrong, for any grammar that is read with one token of sight: a theorem about charts.
+//! What a source is spelled like: its tokens as the grammar sees them, the grammar as a relation (specs `Grammar`), the
+//! limits on tokens and on counts, and where a text first goes wrong.
 #![tactic(auto)]
 
-ghost use Rattle.std.specs.Prelude.{List, [], ◌∷◌, Some};
-ghost use Rattle.st_grammar.specs.Texts.{IsFirst};
-ghost use Rattle.st_grammar.specs.Checks.{Samples, IsChecked};
-ghost use Rattle.st_grammar.specs.Charts.{Grammar, Faults, part};
+mod counts;
+mod items;
+mod lexemes;
+mod limits;
+mod mentions;
+mod operators;
+mod sorts;
+mod token_limits;
 
-/// Where the chart faults, the tokens before begin a text, and with the next token they begin none.
-pub fn first_fault<T, K, N>()
-    ensures { (g : Grammar T K N) (s : Samples T K N) (start : N) → IsChecked g s start → (ts rest : List T)
-        → Faults g (part start ∷ []) ts (Some rest) → IsFirst g start ts rest }
-{}
+pub use counts::{Item, What, first_excess};
+pub use items::items_of;
+pub use lexemes::{Lexeme, sort_in};
+pub use limits::MOST_TOKENS_BETWEEN;
+pub use operators::{Chain, comparison};
+pub use sorts::{Sort, same_sort};
+pub use token_limits::{Over, first_over};

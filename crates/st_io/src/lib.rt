@@ -2,8 +2,6 @@
 //! and the pace at which a run goes on. Traits with their promises, and the adapters of memory and of the system.
 #![tactic(auto)]
 
-#[cfg(test)]
-mod callers;
 mod errors;
 mod giving;
 mod memory_files;

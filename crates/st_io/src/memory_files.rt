@@ -11,7 +11,7 @@ use std::marker::Model;
 
 /// Files that are held in memory. Contracts see the names with their bytes, the numbers of the calls that are to fail,
 /// and the counts.
-#[derive(Debug, Drop)]
+#[derive(Drop)]
 pub struct MemFiles {
     files: Vec<(String, Vec<u8>)>,
     failing: Vec<u32>,

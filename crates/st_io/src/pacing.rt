@@ -10,7 +10,7 @@ pub trait Pace {
 }
 
 /// A pace that holds nobody.
-#[derive(Clone, Copy, Debug)]
+#[derive(Clone, Copy)]
 pub struct NoPace;
 
 impl Pace for NoPace {

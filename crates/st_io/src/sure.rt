@@ -9,7 +9,7 @@ use crate::writing::Sink;
 use std::marker::Model;
 
 /// One text for every name. Contracts see the text, and how many bytes of it were taken.
-#[derive(Debug, Drop)]
+#[derive(Drop)]
 pub struct SureFiles {
     text: Vec<u8>,
     taken: u64,
@@ -49,7 +49,7 @@ impl Files for SureFiles {
 }
 
 /// A sink that takes all bytes, keeps none and tells none.
-#[derive(Clone, Copy, Debug)]
+#[derive(Clone, Copy)]
 pub struct SureSink;
 
 impl Sink for SureSink {

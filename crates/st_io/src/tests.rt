@@ -1,12 +1,10 @@
-//! The adapters at work: the calls that are to fail, the limits, and one real file.
+//! The adapters of the system at work: a long file, a long put, and a source that stops.
 
 use crate::taking::take_whole;
-use crate::{
-    Files, FilesFault, MemFiles, MemSink, NoPace, Pace, RealFiles, RealSink, Sink, SinkFault,
-    SureFiles, SureSink,
-};
-use std::alloc::{AllocError, Global};
-use std::io::{ErrorKind, Read};
+use crate::{Files, FilesFault, RealFiles, RealSink, Sink};
+use std::cell::Cell;
+use std::fmt::Display;
+use std::io::{ErrorKind, Print, Read};
 use std::test::Fail;
 use std::{fs, io};
 
@@ -14,69 +12,9 @@ const FAILED: Result<(), FilesFault> = Err(FilesFault::Failed);
 
 const TOO_LONG: Result<(), FilesFault> = Err(FilesFault::TooLong);
 
-// A file for `MemFiles`.
-fn file(alloc: Global, name: &str, text: &[u8]) -> Result<(String, Vec<u8>), AllocError> {
-    Ok((String::from_str(alloc, name)?, text.to_vec(alloc)?))
-}
-
-#[test]
-fn memory_files_fail_where_they_are_told_to(rt: HostRuntime) -> Result<(), Fail> {
-    let alloc = rt.alloc();
-    let held = vec![in alloc;
-        file(alloc, "a", b"one")?,
-        file(alloc, "b", b"22")?,
-        file(alloc, "a", b"other")?,
-    ]?;
-    let mut files = MemFiles::make(held, vec![in alloc; 2, 7]?);
-    let calls = [
-        ("a", 3, Ok(()), "one"),
-        ("a", 3, FAILED, ""),
-        ("b", 1, TOO_LONG, ""),
-        ("c", 9, FAILED, ""),
-        ("b", 2, Ok(()), "22"),
-    ];
-    for (name, limit, answer, text) in calls {
-        let mut into = Vec::new(alloc);
-        assert_eq!(rt; files.read_whole(name, limit, &mut into), answer);
-        assert_eq!(rt; into.as_slice(), text.as_bytes());
-    }
-    Ok(())
-}
-
-#[test]
-fn a_memory_sink_fails_where_it_is_told_to(rt: HostRuntime) -> Result<(), Fail> {
-    let alloc = rt.alloc();
-    let failing = vec![in alloc; (2, 1), (2, 2), (4, 9), (8, 1)]?;
-    let mut sink = MemSink::with_room(alloc, 8, failing)?;
-    let failed = Err(SinkFault::Failed);
-    let puts = [
-        ("abc", Ok(()), "abc"),
-        ("de", failed, "abcd"),
-        ("f", Ok(()), "abcdf"),
-        ("gh", failed, "abcdfgh"),
-        ("ij", failed, "abcdfgh"),
-        ("k", Ok(()), "abcdfghk"),
-        ("", Ok(()), "abcdfghk"),
-        ("l", failed, "abcdfghk"),
-    ];
-    for (piece, answer, written) in puts {
-        assert_eq!(rt; sink.put(piece.as_bytes()), answer);
-        assert_eq!(rt; sink.bytes(), written.as_bytes());
-    }
-    Ok(())
-}
-
-#[test]
-fn the_sure_ones_do_not_fail(rt: HostRuntime) -> Result<(), Fail> {
-    let alloc = rt.alloc();
-    let mut files = SureFiles::make(b"text".to_vec(alloc)?);
-    let mut into = Vec::new(alloc);
-    assert_eq!(rt; files.read_whole("any", 3, &mut into), TOO_LONG);
-    assert_eq!(rt; into.len(), 0);
-    assert_eq!(rt; files.read_whole("other", 4, &mut into), Ok(()));
-    assert_eq!(rt; into.as_slice(), b"text".as_slice());
-    assert_eq!(rt; SureSink.put(b"piece"), Ok(()));
-    Ok(())
+// The byte that stands at a place of a long text.
+fn byte_at(place: usize) -> u8 {
+    (place % 251) as u8
 }
 
 // Four reads of the system's files: the answer, how many bytes were given, and whether they are a front of the text.
@@ -87,10 +25,10 @@ fn reads_of_the_system(
 ) -> [(Result<(), FilesFault>, usize, bool); 4] {
     let mut files = RealFiles::make(rt);
     [
-        (held, 20_000),
-        (held, 19_999),
+        (held, 100_000),
+        (held, 99_999),
         (held, u32::MAX),
-        ("st_io_test_of_no_file.txt", 20_000),
+        ("st_io_test_of_no_file.txt", 100_000),
     ]
     .map(|(name, limit)| {
         let mut into = Vec::new(rt.alloc());
@@ -102,7 +40,10 @@ fn reads_of_the_system(
 #[test]
 fn a_file_of_the_system_is_read_to_its_limit(rt: HostRuntime) -> Result<(), Fail> {
     let name = "st_io_test_of_a_long_file.txt";
-    let text = vec![in rt.alloc(); 7u8; 20_000]?;
+    let mut text = Vec::new(rt.alloc());
+    for place in 0..100_000 {
+        text.push(byte_at(place))?;
+    }
     fs::write(&rt, name, text.as_slice())?;
     let reads = reads_of_the_system(&rt, name, &text);
     // Before anything is asserted, so that no file is left behind.
@@ -110,26 +51,55 @@ fn a_file_of_the_system_is_read_to_its_limit(rt: HostRuntime) -> Result<(), Fail
     assert_eq!(rt;
         reads,
         [
-            (Ok(()), 20_000, true),
+            (Ok(()), 100_000, true),
             (TOO_LONG, 0, true),
-            (Ok(()), 20_000, true),
+            (Ok(()), 100_000, true),
             (FAILED, 0, true),
         ]
     );
     Ok(())
 }
 
-// A run of one event and one read.
-fn play<P: Pace + Sync>(pace: &P) {
-    pace.event(0, 1);
-    pace.read(1, 1);
+// A standard output that counts its bytes, and tells whether each is the one of its place.
+#[derive(Drop)]
+struct Counting {
+    count: Cell<usize>,
+    right: Cell<bool>,
+}
+
+impl Print for Counting {
+    fn print<D: Display + Drop>(&self, _value: D) -> io::Result<()> {
+        Err(io::Error::from(ErrorKind::Unsupported))
+    }
+
+    fn println<D: Display + Drop>(&self, _value: D) -> io::Result<()> {
+        Err(io::Error::from(ErrorKind::Unsupported))
+    }
+
+    fn write_all(&self, bytes: &[u8]) -> io::Result<()> {
+        for byte in bytes {
+            let place = self.count.get();
+            self.right.set(self.right.get() && *byte == byte_at(place));
+            self.count.set(place.saturating_add(1));
+        }
+        Ok(())
+    }
 }
 
 #[test]
-fn the_standard_output_takes_bytes_and_nobody_is_held(rt: HostRuntime) {
-    let mut out = RealSink::make(&rt);
-    assert_eq!(rt; out.put(b"written\n"), Ok(()));
-    play(&NoPace);
+fn a_long_put_is_written_whole(rt: HostRuntime) -> Result<(), Fail> {
+    let given = Counting {
+        count: Cell::new(0),
+        right: Cell::new(true),
+    };
+    let mut piece = Vec::new(rt.alloc());
+    for place in 0..10_000 {
+        piece.push(byte_at(place))?;
+    }
+    assert!(rt; RealSink::make(&given).put(&piece) == Ok(()));
+    assert_eq!(rt; given.count.get(), 10_000);
+    assert!(rt; given.right.get());
+    Ok(())
 }
 
 // A source that gives a byte, is interrupted, gives a byte, and then ends or breaks.

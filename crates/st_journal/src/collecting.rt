@@ -12,7 +12,7 @@ use std::alloc::Global;
 use std::marker::Model;
 
 /// The events and verdicts that the lines so far tell. Contracts see lists.
-#[derive(Debug, Drop)]
+#[derive(Drop)]
 pub(crate) struct Rows {
     pub(crate) events: Vec<Event>,
     pub(crate) verdicts: Vec<Verdict>,

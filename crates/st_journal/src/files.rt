@@ -4,7 +4,7 @@ use st_events::{Event, Sizes, Verdict};
 use std::marker::Model;
 
 /// What a journal text tells. Contracts see lists.
-#[derive(Debug, Drop)]
+#[derive(Drop)]
 pub struct JournalFile {
     /// The sizes of the run.
     pub sizes: Sizes,

@@ -3,7 +3,7 @@
 use st_events::{Event, Verdict};
 
 /// What a line after the second tells.
-#[derive(Clone, Copy, Debug)]
+#[derive(Clone, Copy)]
 pub(crate) enum Row {
     /// An event.
     Event(Event),

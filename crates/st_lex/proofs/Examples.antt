@@ -1,26 +1,27 @@
--- Numbers by their values, and short texts read by computation. Code and definitions take the same numbers and tables: without
--- these lines a changed one would change both, and no proof would tell.
-use Rattle.std.proofs.Common.{◌≡◌, [], ◌∷◌, length, refl, pos}
+-- Keywords and marks by name, and short texts read by computation. Code and definitions take the same tables: without these
+-- lines a changed one would change both, and no proof would tell.
+use Rattle.std.proofs.Common.{◌≡◌, [], ◌∷◌, map, refl, pos}
 use Rattle.std.specs.Prelude.{Ok, Err, codes}
 use Rattle.st_lex.specs.declared.words.TheConstants.{KEYWORDS, SINGLE_MARKS, DOUBLE_MARKS}
-use Rattle.st_lex.specs.Terms.{Word, Key, Number, LARGEST_NUMBER, MOST_SOURCE_BYTES}
+use Rattle.st_lex.specs.Terms.{Word, Key, Number}
 use Rattle.st_lex.specs.Terms.fault
 use Rattle.st_lex.specs.Reading.{front_piece, token_piece, read_tokens}
 use Rattle.st_lex.specs.Places.{line_at, column_at}
 use Rattle.st_lex.specs.Spellings.{is_keyword, is_single_mark, is_double_mark}
 
-most_source_bytes : MOST_SOURCE_BYTES ≡ 1048576
-most_source_bytes = refl
-
-largest_number : LARGEST_NUMBER ≡ 9223372036854775807
-largest_number = refl
-
--- how many keywords and marks there are
-keywords : length KEYWORDS ≡ 22
+-- the keywords, by name
+keywords : map (λ k. k.now) KEYWORDS
+    ≡ codes "class" ∷ codes "shared" ∷ codes "pred" ∷ codes "proc" ∷ codes "thread" ∷ codes "var" ∷ codes "if" ∷ codes "else"
+    ∷ codes "while" ∷ codes "check" ∷ codes "new" ∷ codes "cas" ∷ codes "null" ∷ codes "true" ∷ codes "false" ∷ codes "int"
+    ∷ codes "bool" ∷ codes "mark" ∷ codes "old" ∷ codes "lock" ∷ codes "set" ∷ codes "array" ∷ []
 keywords = refl
 
-marks : (length SINGLE_MARKS ≡ 18) × (length DOUBLE_MARKS ≡ 6)
-marks = (refl, refl)
+-- the marks of one byte, and those of two
+single_marks : SINGLE_MARKS ≡ codes "{}();:,.=<>+-*/%!?"
+single_marks = refl
+
+double_marks : DOUBLE_MARKS ≡ codes "==" ∷ codes "!=" ∷ codes "<=" ∷ codes ">=" ∷ codes "&&" ∷ codes "||" ∷ []
+double_marks = refl
 
 -- the longest token is taken: `12ab` is a number and a name
 longest : read_tokens (codes "12ab")

@@ -5,7 +5,7 @@ use crate::kinds::{Token, TokenKind};
 use st_events::Site;
 
 /// An offset in a text, with its place.
-#[derive(Clone, Copy, Debug)]
+#[derive(Clone, Copy)]
 pub struct Cursor {
     /// How many bytes stand before it.
     pub offset: usize,

@@ -28,7 +28,7 @@ pub enum LexError {
 }
 
 /// What is wrong where no token stands.
-#[derive(Clone, Copy, Debug, PartialEq, Eq)]
+#[derive(Clone, Copy)]
 pub enum Fault {
     /// No token begins with the byte.
     BadByte,

@@ -13,7 +13,7 @@ use crate::numbers::number_of;
 use crate::words::{DOUBLE_MARKS, KEYWORDS, SINGLE_MARKS};
 
 /// What stands at the front of a text, with its length in bytes.
-#[derive(Clone, Copy, Debug, PartialEq, Eq)]
+#[derive(Clone, Copy)]
 pub enum Piece {
     /// The byte that ends a line.
     Newline,

@@ -8,9 +8,9 @@ use Rattle.std.proofs.lemmas.Nat.{mul-add-lt}
 use Rattle.std.proofs.lemmas.Option.{slice_get_within}
 use Rattle.st_events.specs.declared.events.Site.{Site}
 use Rattle.st_events.specs.declared.verdicts.End.TheVariants.{EventsSpent, ProcDeep}
-use Rattle.st_threads.specs.declared.limits.TheConstants.{TURN_COST, CALL_COST, MOST_OPEN_CALLS}
-use Rattle.st_threads.specs.Deeds.{Deed, ends, Means, paying}
-use Rattle.st_threads.proofs.LoopLemmas.{paid}
+use Rattle.st_thread_meaning.specs.declared.limits.TheConstants.{TURN_COST, CALL_COST, MOST_OPEN_CALLS}
+use Rattle.st_thread_meaning.specs.Deeds.{Deed, ends, Means, paying}
+use Rattle.st_thread_meaning.proofs.LoopLemmas.{paid}
 use Rattle.st_mutator.specs.declared.asking.Asked.{Asked}
 use Rattle.st_mutator.specs.declared.asking.Asked.TheVariants as asked
 use Rattle.st_mutator.specs.declared.machines.Machine.{Machine}

@@ -8,15 +8,15 @@ use Rattle.st_events.specs.declared.events.Args.{Args}
 use Rattle.st_events.specs.declared.events.Site.{Site}
 use Rattle.st_events.specs.declared.heaps.TheConstants.{SHARED_OBJECT}
 use Rattle.st_events.specs.declared.verdicts.End.TheVariants.{EventsSpent}
-use Rattle.st_program.specs.Terms.{Term, Terms, no_terms, term_then, Target, to_shared, to_field, Source, from_term, from_new, from_cas}
-use Rattle.st_program.specs.Terms.{Command, a_set, a_put, an_if, a_while, a_proc_call, a_launch, Block, no_commands, command_then, Program}
-use Rattle.st_meaning.specs.Courses.{Course, comes_to, and_then}
-use Rattle.st_meaning.specs.Numbers.{is_true}
-use Rattle.st_meaning.specs.Meaning.{course_of, courses_of}
-use Rattle.st_threads.specs.declared.limits.TheConstants.{TURN_COST}
-use Rattle.st_threads.specs.Deeds.{Request, store, cas, launch, Deed, ends, Means, paying, asking}
-use Rattle.st_threads.specs.Statements.{evaluating, no_calls, term_deed, object_deed, source_deed, values_of, names_of, args_of, one_turn, turns, ProcCalls, command_deed, block_deed, new_deed}
-use Rattle.st_threads.proofs.LoopLemmas.{evaluating_same}
+use Rattle.st_resolved.specs.Terms.{Term, Terms, no_terms, term_then, Target, to_shared, to_field, Source, from_term, from_new, from_cas}
+use Rattle.st_resolved.specs.Terms.{Command, a_set, a_put, an_if, a_while, a_proc_call, a_launch, Block, no_commands, command_then, Program}
+use Rattle.st_check_meaning.specs.Courses.{Course, comes_to, and_then}
+use Rattle.st_check_meaning.specs.Numbers.{is_true}
+use Rattle.st_check_meaning.specs.Meaning.{course_of, courses_of}
+use Rattle.st_thread_meaning.specs.declared.limits.TheConstants.{TURN_COST}
+use Rattle.st_thread_meaning.specs.Deeds.{Request, store, cas, launch, Deed, ends, Means, paying, asking}
+use Rattle.st_thread_meaning.specs.Statements.{evaluating, no_calls, term_deed, object_deed, source_deed, values_of, names_of, args_of, one_turn, turns, ProcCalls, command_deed, block_deed, new_deed}
+use Rattle.st_thread_meaning.proofs.LoopLemmas.{evaluating_same}
 use Rattle.st_mutator.specs.declared.nodes.Next.{Next}
 use Rattle.st_mutator.specs.declared.nodes.Next.TheVariants.{At, Last}
 use Rattle.st_mutator.specs.declared.nodes.Node.{Node}

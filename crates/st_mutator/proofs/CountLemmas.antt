@@ -1,7 +1,7 @@
 -- There are as many arguments as expressions
 use Rattle.std.proofs.Common.{◌≡◌, suc, List, [], ◌∷◌, length, refl, ap}
-use Rattle.st_program.specs.declared.expressions.Expr.{Expr}
-use Rattle.st_program.specs.Views.{args_of}
+use Rattle.st_resolved.specs.declared.expressions.Expr.{Expr}
+use Rattle.st_resolved.specs.Views.{args_of}
 use Rattle.st_mutator.specs.Laying.{count_of}
 
 -- the view of so many arguments has as many terms

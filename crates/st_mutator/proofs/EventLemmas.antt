@@ -4,10 +4,10 @@ use Rattle.std.proofs.lemmas.Bool.{ne_eqb}
 use Rattle.st_events.specs.declared.events.Site.{Site}
 use Rattle.st_events.specs.declared.verdicts.End.TheVariants.{Null, HeapFull}
 use Rattle.st_events.specs.declared.verdicts.Plain.TheVariants as fault
-use Rattle.st_meaning.specs.Courses.{Course, ends_in}
-use Rattle.st_meaning.specs.Meaning.{field_of, read_cell}
-use Rattle.st_threads.specs.Deeds.{Request, make, load, Deed, ends, Means, asking}
-use Rattle.st_threads.specs.Statements.{evaluating, new_deed}
+use Rattle.st_check_meaning.specs.Courses.{Course, ends_in}
+use Rattle.st_check_meaning.specs.Meaning.{field_of, read_cell}
+use Rattle.st_thread_meaning.specs.Deeds.{Request, make, load, Deed, ends, Means, asking}
+use Rattle.st_thread_meaning.specs.Statements.{evaluating, new_deed}
 use Rattle.st_mutator.specs.declared.asking.Asked.{Asked}
 use Rattle.st_mutator.specs.declared.asking.Asked.TheVariants as asked
 use Rattle.st_mutator.specs.declared.nodes.Entry.{Entry}

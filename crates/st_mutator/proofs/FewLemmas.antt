@@ -2,8 +2,8 @@
 use Rattle.std.proofs.Common.{List, [], ◌∷◌, All}
 use Rattle.std.proofs.lemmas.List.Elements.{All-head, All-tail}
 use Rattle.st_events.specs.Shape.{ShapeLists}
-use Rattle.st_program.specs.Terms.{Routine, Program}
-use Rattle.st_program.specs.WellFormed.{IsRightRoutine, IsWellFormed}
+use Rattle.st_resolved.specs.Terms.{Routine, Program}
+use Rattle.st_resolved.specs.WellFormed.{IsRightRoutine, IsWellFormed}
 use Rattle.st_mutator.specs.Mutators.{HaveFewLocals, HasFewLocals}
 
 few_in_each : (shape : ShapeLists) (p : Program) (rs : List Routine) → All (IsRightRoutine shape p) rs → HaveFewLocals rs

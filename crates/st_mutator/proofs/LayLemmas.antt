@@ -6,10 +6,10 @@ use Rattle.std.proofs.lemmas.List.{append-nil}
 use Rattle.std.proofs.lemmas.Bool.Decides.{leb_tells}
 use mathlib.Core.Path.{fun_ext}
 use Rattle.st_events.specs.declared.events.Site.{Site}
-use Rattle.st_meaning.specs.Courses.{Course, comes_to, ends_in, reads, uses_unit, and_then}
-use Rattle.st_threads.specs.Deeds.{Request, load, Deed, Means}
-use Rattle.st_threads.specs.Statements.{evaluating, ProcCalls}
-use Rattle.st_threads.proofs.LoopLemmas.{asking_same}
+use Rattle.st_check_meaning.specs.Courses.{Course, comes_to, ends_in, reads, uses_unit, and_then}
+use Rattle.st_thread_meaning.specs.Deeds.{Request, load, Deed, Means}
+use Rattle.st_thread_meaning.specs.Statements.{evaluating, ProcCalls}
+use Rattle.st_thread_meaning.proofs.LoopLemmas.{asking_same}
 use Rattle.st_mutator.specs.declared.nodes.Next.{Next}
 use Rattle.st_mutator.specs.declared.nodes.Next.TheVariants.{At, Last}
 use Rattle.st_mutator.specs.declared.nodes.Node.{Node}

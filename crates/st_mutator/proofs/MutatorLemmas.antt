@@ -3,11 +3,11 @@ use Rattle.std.proofs.Common.{◌≡◌, ℕ, zero, suc, ◌+◌, ◌-◌, ◌�
 use Rattle.std.specs.Prelude.{slice_get}
 use Rattle.st_events.specs.declared.limits.Sizes.{Sizes}
 use Rattle.st_events.specs.declared.verdicts.End.{End}
-use Rattle.st_program.specs.declared.limits.TheConstants.{MOST_LOCALS}
-use Rattle.st_program.specs.Terms.{Routine, Program}
-use Rattle.st_threads.specs.Deeds.{make, load, store, cas, launch, Deed, ends, asks}
-use Rattle.st_threads.specs.Threads.{Turn, asks_for, has_ended, turn_of, deed_after, thread_deed, next_request}
-use Rattle.st_threads.proofs.FollowLemmas.{after_both}
+use Rattle.st_resolved.specs.declared.limits.TheConstants.{MOST_LOCALS}
+use Rattle.st_resolved.specs.Terms.{Routine, Program}
+use Rattle.st_thread_meaning.specs.Deeds.{make, load, store, cas, launch, Deed, ends, asks}
+use Rattle.st_thread_meaning.specs.Threads.{Turn, asks_for, has_ended, turn_of, deed_after, thread_deed, next_request}
+use Rattle.st_thread_meaning.proofs.FollowLemmas.{after_both}
 use Rattle.st_mutator.specs.declared.asking.Asked.{Asked}
 use Rattle.st_mutator.specs.declared.asking.Asked.TheVariants as asked
 use Rattle.st_mutator.specs.declared.machines.Machine.{Machine}

@@ -4,12 +4,12 @@ use Rattle.std.specs.Prelude.{slice_get, replicate}
 use mathlib.Core.Path.{fun_ext}
 use Rattle.st_events.specs.declared.events.Site.{Site}
 use Rattle.st_events.specs.declared.verdicts.End.TheVariants.{Finished}
-use Rattle.st_program.specs.Terms.{Routine, Program}
-use Rattle.st_threads.specs.declared.limits.TheConstants.{CALL_COST, MOST_OPEN_CALLS}
-use Rattle.st_threads.specs.Deeds.{Deed, ends, Means, paying}
-use Rattle.st_threads.specs.Statements.{ProcCalls, block_deed}
-use Rattle.st_threads.specs.Threads.{first_locals, body_deed, call_within, thread_deed}
-use Rattle.st_threads.proofs.LoopLemmas.{paid, paying_same}
+use Rattle.st_resolved.specs.Terms.{Routine, Program}
+use Rattle.st_thread_meaning.specs.declared.limits.TheConstants.{CALL_COST, MOST_OPEN_CALLS}
+use Rattle.st_thread_meaning.specs.Deeds.{Deed, ends, Means, paying}
+use Rattle.st_thread_meaning.specs.Statements.{ProcCalls, block_deed}
+use Rattle.st_thread_meaning.specs.Threads.{first_locals, body_deed, call_within, thread_deed}
+use Rattle.st_thread_meaning.proofs.LoopLemmas.{paid, paying_same}
 use Rattle.st_mutator.specs.declared.nodes.Next.{Next}
 use Rattle.st_mutator.specs.declared.nodes.Next.TheVariants.{At, Last}
 use Rattle.st_mutator.specs.declared.nodes.Node.{Node}

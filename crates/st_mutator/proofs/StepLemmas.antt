@@ -5,11 +5,11 @@ use Rattle.std.proofs.Math.Nat.{mul_comm}
 use Rattle.std.proofs.lemmas.Nat.{mul-add-lt}
 use Rattle.st_events.specs.declared.verdicts.End.{End}
 use Rattle.st_events.specs.declared.verdicts.End.TheVariants.{Finished, EventsSpent}
-use Rattle.st_meaning.specs.Numbers.{is_true}
-use Rattle.st_threads.specs.declared.limits.TheConstants.{MOST_OPEN_CALLS}
-use Rattle.st_threads.specs.Deeds.{Request, Deed, ends, asks, Means, paying, cost_of, asking}
-use Rattle.st_threads.specs.Threads.{Turn, asks_for, has_ended}
-use Rattle.st_threads.proofs.LoopLemmas.{paid, paying_spent}
+use Rattle.st_check_meaning.specs.Numbers.{is_true}
+use Rattle.st_thread_meaning.specs.declared.limits.TheConstants.{MOST_OPEN_CALLS}
+use Rattle.st_thread_meaning.specs.Deeds.{Request, Deed, ends, asks, Means, paying, cost_of, asking}
+use Rattle.st_thread_meaning.specs.Threads.{Turn, asks_for, has_ended}
+use Rattle.st_thread_meaning.proofs.LoopLemmas.{paid, paying_spent}
 use Rattle.st_mutator.specs.declared.asking.Asked.{Asked}
 use Rattle.st_mutator.specs.declared.asking.Asked.TheVariants as asked
 use Rattle.st_mutator.specs.declared.machines.Machine.{Machine}

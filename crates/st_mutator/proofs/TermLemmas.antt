@@ -3,14 +3,14 @@ use Rattle.std.proofs.Common.{◌≡◌, ℕ, zero, suc, ◌+◌, ◌<◌, ◌�
 use Rattle.std.specs.Prelude.{not, slice_get, unwrap_or, neg_ℤ}
 use Rattle.st_events.specs.declared.heaps.TheConstants.{SHARED_OBJECT}
 use Rattle.st_events.specs.declared.events.Site.{Site}
-use Rattle.st_program.specs.Terms.{Term, a_number, a_truth, a_null, a_local, a_shared, a_field, a_not, a_minus, a_binary, a_both, an_either, a_cond, a_call}
-use Rattle.st_program.specs.Terms.{Terms, no_terms, term_then}
-use Rattle.st_meaning.specs.Courses.{Course, comes_to, and_then}
-use Rattle.st_meaning.specs.Numbers.{number_of, word_of_number, word_of_truth, is_true, number_or_overflow}
-use Rattle.st_meaning.specs.Meaning.{course_of, courses_of, truth, operate, read_cell, field_of}
-use Rattle.st_threads.specs.Deeds.{Deed, Means}
-use Rattle.st_threads.specs.Statements.{evaluating, no_calls, term_deed, ProcCalls}
-use Rattle.st_threads.proofs.LoopLemmas.{evaluating_same, SameBelow}
+use Rattle.st_resolved.specs.Terms.{Term, a_number, a_truth, a_null, a_local, a_shared, a_field, a_not, a_minus, a_binary, a_both, an_either, a_cond, a_call}
+use Rattle.st_resolved.specs.Terms.{Terms, no_terms, term_then}
+use Rattle.st_check_meaning.specs.Courses.{Course, comes_to, and_then}
+use Rattle.st_check_meaning.specs.Numbers.{number_of, word_of_number, word_of_truth, is_true, number_or_overflow}
+use Rattle.st_check_meaning.specs.Meaning.{course_of, courses_of, truth, operate, read_cell, field_of}
+use Rattle.st_thread_meaning.specs.Deeds.{Deed, Means}
+use Rattle.st_thread_meaning.specs.Statements.{evaluating, no_calls, term_deed, ProcCalls}
+use Rattle.st_thread_meaning.proofs.LoopLemmas.{evaluating_same, SameBelow}
 use Rattle.st_mutator.specs.declared.nodes.Next.{Next}
 use Rattle.st_mutator.specs.declared.nodes.Next.TheVariants.{At, Last}
 use Rattle.st_mutator.specs.declared.nodes.Node.{Node}

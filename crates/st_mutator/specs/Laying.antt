@@ -2,11 +2,11 @@
 use Rattle.std.specs.Prelude.{ℕ, suc, List, [], ◌∷◌, ◌++◌, length, Option, Some, None, slice_get}
 use Rattle.st_events.specs.declared.events.Site.{Site}
 use Rattle.st_events.specs.declared.heaps.TheConstants.{SHARED_OBJECT}
-use Rattle.st_program.specs.Terms.{Term, a_number, a_truth, a_null, a_local, a_shared, a_field, a_not, a_minus, a_binary, a_both, an_either, a_cond, a_call}
-use Rattle.st_program.specs.Terms.{Terms, no_terms, term_then, Target, to_shared, to_field, Source, from_term, from_new, from_cas}
-use Rattle.st_program.specs.Terms.{Command, a_set, a_put, an_if, a_while, a_proc_call, a_launch, Block, no_commands, command_then, Routine, CheckStatement, Program}
-use Rattle.st_meaning.specs.Numbers.{word_of_number, word_of_truth}
-use Rattle.st_threads.specs.Statements.{names_of}
+use Rattle.st_resolved.specs.Terms.{Term, a_number, a_truth, a_null, a_local, a_shared, a_field, a_not, a_minus, a_binary, a_both, an_either, a_cond, a_call}
+use Rattle.st_resolved.specs.Terms.{Terms, no_terms, term_then, Target, to_shared, to_field, Source, from_term, from_new, from_cas}
+use Rattle.st_resolved.specs.Terms.{Command, a_set, a_put, an_if, a_while, a_proc_call, a_launch, Block, no_commands, command_then, Routine, CheckStatement, Program}
+use Rattle.st_check_meaning.specs.Numbers.{word_of_number, word_of_truth}
+use Rattle.st_thread_meaning.specs.Statements.{names_of}
 use Rattle.st_mutator.specs.declared.nodes.Next.{Next}
 use Rattle.st_mutator.specs.declared.nodes.Next.TheVariants.{At, Last}
 use Rattle.st_mutator.specs.declared.nodes.Node.{Node}

@@ -2,11 +2,11 @@
 use Rattle.std.specs.Prelude.{◌≡◌, ℕ, ◌-◌, ◌<◌, ◌≤◌, ◌^◌, min, List, [], ◌∷◌, ◌++◌, length, take, replicate, Option, Some, None, false}
 use Rattle.st_events.specs.declared.limits.Sizes.{Sizes}
 use Rattle.st_events.specs.declared.verdicts.End.{End}
-use Rattle.st_program.specs.declared.limits.TheConstants.{MOST_LOCALS}
-use Rattle.st_program.specs.Terms.{Routine, Program}
-use Rattle.st_threads.specs.declared.limits.TheConstants.{MOST_OPEN_CALLS}
-use Rattle.st_threads.specs.Deeds.{Request, make, load, store, cas, launch, Deed, ends}
-use Rattle.st_threads.specs.Threads.{Turn, asks_for, has_ended, deed_after, thread_deed}
+use Rattle.st_resolved.specs.declared.limits.TheConstants.{MOST_LOCALS}
+use Rattle.st_resolved.specs.Terms.{Routine, Program}
+use Rattle.st_thread_meaning.specs.declared.limits.TheConstants.{MOST_OPEN_CALLS}
+use Rattle.st_thread_meaning.specs.Deeds.{Request, make, load, store, cas, launch, Deed, ends}
+use Rattle.st_thread_meaning.specs.Threads.{Turn, asks_for, has_ended, deed_after, thread_deed}
 use Rattle.st_mutator.specs.declared.machines.Machine.{Machine}
 use Rattle.st_mutator.specs.declared.wants.Want.{Want}
 use Rattle.st_mutator.specs.declared.wants.Want.TheVariants as want

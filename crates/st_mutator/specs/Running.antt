@@ -4,11 +4,11 @@ use Rattle.std.specs.Prelude.{◌≡◌, ℕ, zero, suc, ◌==◌, true, false, 
 use Rattle.std.specs.Prelude.{Option, Some, None, unwrap_or, slice_get, slice_set}
 use Rattle.st_events.specs.declared.events.Site.{Site}
 use Rattle.st_events.specs.declared.verdicts.End.TheVariants.{Finished, Null, EventsSpent, ProcDeep}
-use Rattle.st_meaning.specs.Numbers.{number_of, word_of_truth, is_true, number_or_overflow}
-use Rattle.st_meaning.specs.Meaning.{operate, field_of}
-use Rattle.st_threads.specs.declared.limits.TheConstants.{TURN_COST, CALL_COST}
-use Rattle.st_threads.specs.Deeds.{Request, store, cas, launch, Deed, ends, Means, paying, asking}
-use Rattle.st_threads.specs.Statements.{evaluating, new_deed, args_of, ProcCalls}
+use Rattle.st_check_meaning.specs.Numbers.{number_of, word_of_truth, is_true, number_or_overflow}
+use Rattle.st_check_meaning.specs.Meaning.{operate, field_of}
+use Rattle.st_thread_meaning.specs.declared.limits.TheConstants.{TURN_COST, CALL_COST}
+use Rattle.st_thread_meaning.specs.Deeds.{Request, store, cas, launch, Deed, ends, Means, paying, asking}
+use Rattle.st_thread_meaning.specs.Statements.{evaluating, new_deed, args_of, ProcCalls}
 use Rattle.st_mutator.specs.declared.nodes.Next.{Next}
 use Rattle.st_mutator.specs.declared.nodes.Next.TheVariants.{At, Last}
 use Rattle.st_mutator.specs.declared.nodes.Node.{Node}

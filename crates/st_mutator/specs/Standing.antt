@@ -2,11 +2,11 @@
 use Rattle.std.specs.Prelude.{◌≡◌, ℕ, zero, suc, ◌+◌, ◌-◌, ◌*◌, ◌<◌, ◌≤◌, nat_lt, Bool, true, false, List, [], ◌∷◌, ◌++◌, length, take, reverse, replicate, Option, Some, None, slice_get}
 use Rattle.st_events.specs.declared.verdicts.End.{End}
 use Rattle.st_events.specs.declared.verdicts.End.TheVariants.{Finished}
-use Rattle.st_program.specs.declared.limits.TheConstants.{MOST_LOCALS}
-use Rattle.st_meaning.specs.Numbers.{is_true}
-use Rattle.st_threads.specs.declared.limits.TheConstants.{MOST_OPEN_CALLS}
-use Rattle.st_threads.specs.Deeds.{Request, make, load, store, cas, launch, Deed, ends, asks, Means}
-use Rattle.st_threads.specs.Threads.{Turn, asks_for, has_ended}
+use Rattle.st_resolved.specs.declared.limits.TheConstants.{MOST_LOCALS}
+use Rattle.st_check_meaning.specs.Numbers.{is_true}
+use Rattle.st_thread_meaning.specs.declared.limits.TheConstants.{MOST_OPEN_CALLS}
+use Rattle.st_thread_meaning.specs.Deeds.{Request, make, load, store, cas, launch, Deed, ends, asks, Means}
+use Rattle.st_thread_meaning.specs.Threads.{Turn, asks_for, has_ended}
 use Rattle.st_mutator.specs.declared.machines.Machine.{Machine}
 use Rattle.st_mutator.specs.declared.nodes.Next.{Next}
 use Rattle.st_mutator.specs.declared.nodes.Next.TheVariants.{At, Last}

@@ -1,10 +1,10 @@
 //! What a thread asks for, before it is known that the object has a number of 32 bits.
 ghost use Rattle.std.specs.Prelude.{◌≡◌};
-ghost use Rattle.st_threads.specs.Deeds.{Request, cost_of as cost_of_request};
-ghost use Rattle.st_threads.specs.Threads.{asks_for};
+ghost use Rattle.st_thread_meaning.specs.Deeds.{Request, cost_of as cost_of_request};
+ghost use Rattle.st_thread_meaning.specs.Threads.{asks_for};
 
 use st_events::{Args, End};
-use st_threads::{EVENT_COST, LAUNCH_COST};
+use st_thread_meaning::{EVENT_COST, LAUNCH_COST};
 
 /// What a thread asks for, or how it ended. An object is the word that names it.
 #[derive(Clone, Copy, Debug)]

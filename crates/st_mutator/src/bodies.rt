@@ -1,14 +1,14 @@
 //! The code of statements and bodies.
 ghost use Rattle.std.specs.Prelude.{◌≡◌, IfOk, [], map, slice_get};
-ghost use Rattle.st_program.specs.Views.{args_of, command_of, block_of, check_of, routine_of, target_of, term_of, source_of, program_of};
-ghost use Rattle.st_program.specs.Terms.{a_set, a_put, a_proc_call, a_launch};
-ghost use Rattle.st_threads.specs.Statements.{names_of as names_of_check};
+ghost use Rattle.st_resolved.specs.Views.{args_of, command_of, block_of, check_of, routine_of, target_of, term_of, source_of, program_of};
+ghost use Rattle.st_resolved.specs.Terms.{a_set, a_put, a_proc_call, a_launch};
+ghost use Rattle.st_thread_meaning.specs.Statements.{names_of as names_of_check};
 ghost use Rattle.st_mutator.specs.Laying.{lay_names, lay_branch, lay_loop, lay_command, lay_block, lay_procs, lay_thread, lay_program};
 
 use crate::laying::{count_args, field_of, object, place_of, put, source, term, terms};
 use crate::nodes::{Entry, Next, Node};
 use st_events::{MOST_ARGS, Site};
-use st_program::{Body, Check, Expr, Items, Resolved, Source, Stmt, Target};
+use st_resolved::{Body, Check, Expr, Items, Resolved, Source, Stmt, Target};
 use std::alloc::{AllocError, Global};
 
 /// The locals that a check statement takes, no more than there may be; none where there is no such statement.

@@ -1,7 +1,7 @@
 //! Loops, calls and launches, and what a step is.
 ghost use Rattle.std.specs.Prelude.{◌≡◌, ◌+◌, ◌<◌, ◌≤◌, ◌∷◌, length, take, reverse, Some, slice_get};
-ghost use Rattle.st_program.specs.declared.limits.TheConstants.{MOST_LOCALS};
-ghost use Rattle.st_threads.specs.Statements.{args_of};
+ghost use Rattle.st_resolved.specs.declared.limits.TheConstants.{MOST_LOCALS};
+ghost use Rattle.st_thread_meaning.specs.Statements.{args_of};
 ghost use Rattle.st_mutator.specs.Standing.{IsStanding, IsStep, entered_in, work_of, rank, AreBelow, places_of, node_deed, deed_of, deed_when_told, IsWaiting, IsAnswer, IsPaid};
 
 use crate::asking::Asked;
@@ -9,7 +9,7 @@ use crate::locals::{Locals, filled};
 use crate::machines::Machine;
 use crate::nodes::{Entry, Frame, Next, Node};
 use st_events::{Args, End, Site};
-use st_threads::{CALL_COST, MOST_OPEN_CALLS, TURN_COST};
+use st_thread_meaning::{CALL_COST, MOST_OPEN_CALLS, TURN_COST};
 use std::mem;
 
 impl Machine {

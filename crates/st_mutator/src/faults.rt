@@ -1,13 +1,13 @@
 //! What operators make of words, and faults as ends.
 ghost use Rattle.std.specs.Prelude.{◌≡◌, ℤ, SomeIff, FitsSigned, neg_ℤ};
 ghost use Rattle.std.specs.Int.{w64};
-ghost use Rattle.st_meaning.specs.Numbers.{number_of, number_or_overflow};
-ghost use Rattle.st_meaning.specs.Meaning.{operate, quotient, remainder};
-ghost use Rattle.st_threads.specs.Statements.{end_of as end_of_fault};
+ghost use Rattle.st_check_meaning.specs.Numbers.{number_of, number_or_overflow};
+ghost use Rattle.st_check_meaning.specs.Meaning.{operate, quotient, remainder};
+ghost use Rattle.st_thread_meaning.specs.Statements.{end_of as end_of_fault};
 ghost use Rattle.st_mutator.specs.Outcomes.{outcome_of};
 
 use st_events::{End, Plain, Site};
-use st_program::Operator;
+use st_resolved::Operator;
 
 /// The end of a thread in whose evaluation this fault comes.
 pub(crate) fn end_of(fault: Plain) -> End

@@ -1,11 +1,11 @@
 //! The code of expressions. What comes next is laid before, so each piece of code is laid in front of a place.
 ghost use Rattle.std.specs.Prelude.{◌≡◌, IfOk};
-ghost use Rattle.st_program.specs.Views.{term_of, args_of, target_of, source_of};
+ghost use Rattle.st_resolved.specs.Views.{term_of, args_of, target_of, source_of};
 ghost use Rattle.st_mutator.specs.Laying.{no_place, put as put_node, put_both as both_of, put_either as either_of, put_shared as shared_of, lay_term, lay_dropped, lay_terms, count_of, lay_object, lay_source, field_of_target, place_of_target};
 
 use crate::nodes::{Next, Node};
 use st_events::{SHARED_OBJECT, Site};
-use st_program::{Expr, Items, Source, Target};
+use st_resolved::{Expr, Items, Source, Target};
 use std::alloc::AllocError;
 
 /// The place of a null test that is never met: the shared object is not null.

@@ -1,7 +1,7 @@
 //! The words of the locals of a body.
 ghost use Rattle.std.specs.Prelude.{◌≡◌, ℕ, ◌≤◌, ◌++◌, length, take, replicate, slice_get, slice_set, unwrap_or};
 
-use st_program::MOST_LOCALS;
+use st_resolved::MOST_LOCALS;
 use std::marker::Model;
 
 /// So many words, at most `MOST_LOCALS`. Contracts see the list of them.
@@ -13,7 +13,7 @@ pub(crate) struct Locals {
 
 impl Model for Locals {
     ghost use Rattle.std.specs.Prelude.{ℕ, List, take, ◌≤◌};
-    ghost use Rattle.st_program.specs.declared.limits.TheConstants.{MOST_LOCALS};
+    ghost use Rattle.st_resolved.specs.declared.limits.TheConstants.{MOST_LOCALS};
 
     ghost Value = { List ℕ };
 

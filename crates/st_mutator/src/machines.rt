@@ -3,7 +3,7 @@
 use crate::locals::Locals;
 use crate::nodes::{Entry, Frame, Next, Node};
 use crate::stacks::Stack;
-use st_program::Items;
+use st_resolved::Items;
 
 /// A thread between two steps.
 #[derive(Debug, Drop)]

@@ -1,10 +1,10 @@
 //! A thread of a program, one request at a time.
 ghost use Rattle.std.specs.Prelude.{◌≡◌, ℕ, ◌≤◌, [], ◌∷◌, ◌++◌, List, IfOk};
 ghost use Rattle.st_events.specs.declared.limits.Sizes.{Sizes};
-ghost use Rattle.st_program.specs.declared.limits.TheConstants.{MOST_LOCALS};
-ghost use Rattle.st_program.specs.Terms.{Program};
-ghost use Rattle.st_program.specs.Views.{program_of};
-ghost use Rattle.st_threads.specs.Threads.{next_request};
+ghost use Rattle.st_resolved.specs.declared.limits.TheConstants.{MOST_LOCALS};
+ghost use Rattle.st_resolved.specs.Terms.{Program};
+ghost use Rattle.st_resolved.specs.Views.{program_of};
+ghost use Rattle.st_thread_meaning.specs.Threads.{next_request};
 ghost use Rattle.st_mutator.specs.Mutators.{HasHad, HasFewLocals, NamesObject, begun, narrow, narrowed, replies_in, turn_of_want};
 ghost use Rattle.st_mutator.specs.Standing.{turn_of_asked, end_of_asked};
 
@@ -15,8 +15,8 @@ use crate::machines::Machine;
 use crate::stacks::Stack;
 use crate::wants::Want;
 use st_events::{End, NoMemory};
-use st_program::Resolved;
-use st_threads::MOST_OPEN_CALLS;
+use st_resolved::Resolved;
+use st_thread_meaning::MOST_OPEN_CALLS;
 use std::alloc::{AllocError, Global};
 use std::marker::Model;
 

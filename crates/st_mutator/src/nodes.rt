@@ -2,7 +2,7 @@
 //! nowhere else ends; loops and calls go on by frames.
 
 use st_events::Site;
-use st_program::Operator;
+use st_resolved::Operator;
 
 /// Where code goes on.
 #[derive(Clone, Copy, Debug)]

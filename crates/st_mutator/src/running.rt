@@ -1,9 +1,9 @@
 //! What each node does.
 ghost use Rattle.std.specs.Prelude.{◌≡◌, ◌<◌, ◌∷◌, suc};
-ghost use Rattle.st_meaning.specs.Numbers.{is_true as is_true_word};
-ghost use Rattle.st_threads.specs.Deeds.{Request};
-ghost use Rattle.st_threads.specs.Statements.{evaluating};
-ghost use Rattle.st_threads.specs.Threads.{asks_for};
+ghost use Rattle.st_check_meaning.specs.Numbers.{is_true as is_true_word};
+ghost use Rattle.st_thread_meaning.specs.Deeds.{Request};
+ghost use Rattle.st_thread_meaning.specs.Statements.{evaluating};
+ghost use Rattle.st_thread_meaning.specs.Threads.{asks_for};
 ghost use Rattle.st_mutator.specs.Outcomes.{outcome_of};
 ghost use Rattle.st_mutator.specs.Running.{unless_null};
 ghost use Rattle.st_mutator.specs.Standing.{IsStanding, IsStep, means_of, rest_of, going_in, turn_of_asked, work_of, rank, node_deed};
@@ -13,7 +13,7 @@ use crate::faults::{end_of, negate, operate};
 use crate::machines::Machine;
 use crate::nodes::{Next, Node};
 use st_events::{End, Plain, Site};
-use st_program::Operator;
+use st_resolved::Operator;
 
 /// Whether the word is that of true.
 fn is_true(word: u64) -> bool

@@ -1,7 +1,7 @@
 //! One step of a thread: a node, or where code ends the last frame.
 ghost use Rattle.std.specs.Prelude.{◌≡◌, ◌+◌, ◌<◌, suc, [], ◌∷◌, length};
-ghost use Rattle.st_threads.specs.Deeds.{Request, asking};
-ghost use Rattle.st_threads.specs.Threads.{asks_for};
+ghost use Rattle.st_thread_meaning.specs.Deeds.{Request, asking};
+ghost use Rattle.st_thread_meaning.specs.Threads.{asks_for};
 ghost use Rattle.st_mutator.specs.Running.{unless_null};
 ghost use Rattle.st_mutator.specs.Stacked.{top, below};
 ghost use Rattle.st_mutator.specs.Standing.{IsStanding, IsStep, IsPaid, with_operands, fresh_at, work_of, rank, AreBelow, places_of, node_deed, deed_of, going_in, rest_of};

@@ -2,8 +2,8 @@
 use Rattle.std.proofs.Common.{◌≡◌, ℕ, ◌+◌, ◌<◌, ◌≤◌, List, [], ◌∷◌, length, map, drop, get_or, Ok, ap, sym, ◌∙◌}
 use Rattle.std.proofs.lemmas.List.{drop_all, drop_more, drop-map}
 use Rattle.st_lex.specs.declared.kinds.Token.{Token}
-use Rattle.st_syntax.specs.Terminals.{Terminal, terminal_of, terminals_of}
-use Rattle.st_reading.specs.Reading.{take_any}
+use Rattle.st_grammar.specs.Terminals.{Terminal, terminal_of, terminals_of}
+use Rattle.st_grammar_laws.specs.Reading.{take_any}
 
 -- those from a token on begin with its terminal
 pub from_token : (text : List ℕ) (tokens : List Token) (k : ℕ) (token : Token) → k < length tokens → token ≡ get_or tokens k token

@@ -1,5 +1,6 @@
 pub mod CursorLemmas
 pub mod EndLemmas
+pub mod FaultLemmas
 pub mod NestedLemmas
 pub mod OutcomeLemmas
 pub mod Ranks

@@ -1,13 +1,13 @@
 -- One level of nested expressions.
 use Rattle.std.proofs.Common.{◌≡◌, ◌≢◌, ℕ, zero, suc, ◌-◌, false, List, Ok, Err, refl, ap, sym, arith}
 use Rattle.st_ast.specs.declared.expressions.Expr.{Expr}
-use Rattle.st_reading.specs.declared.levels.Level.TheVariants as level
-use Rattle.st_reading.specs.declared.levels.Level.{Level}
-use Rattle.st_syntax.specs.declared.operators.Chain.{Chain}
-use Rattle.st_syntax.specs.declared.operators.Chain.TheVariants as chain
-use Rattle.st_syntax.specs.declared.sorts.Sort.TheVariants as sort
-use Rattle.st_syntax.specs.Terminals.{Terminal}
-use Rattle.st_reading.specs.Reading.{Reader, Outcome, and_then, nested, choice, unary, linked, link, turns, is_operator, blocks, block_of}
+use Rattle.st_grammar_laws.specs.declared.levels.Level.TheVariants as level
+use Rattle.st_grammar_laws.specs.declared.levels.Level.{Level}
+use Rattle.st_grammar.specs.declared.operators.Chain.{Chain}
+use Rattle.st_grammar.specs.declared.operators.Chain.TheVariants as chain
+use Rattle.st_grammar.specs.declared.sorts.Sort.TheVariants as sort
+use Rattle.st_grammar.specs.Terminals.{Terminal}
+use Rattle.st_grammar_laws.specs.Reading.{Reader, Outcome, and_then, nested, choice, unary, linked, link, turns, is_operator, blocks, block_of}
 
 -- a whole expression is read as a choice in which expressions nest one less deep
 pub nested_whole : (depth : ℕ) → depth ≢ 0 → nested depth level.Whole ≡ choice (nested (depth - 1))

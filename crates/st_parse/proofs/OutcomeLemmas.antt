@@ -7,21 +7,21 @@ use Rattle.st_ast.specs.declared.declarations.Program.{Program}
 use Rattle.st_lex.specs.declared.kinds.Token.{Token}
 use Rattle.st_parse.specs.declared.errors.ParseError.{ParseError}
 use Rattle.st_parse.specs.declared.errors.ParseError.TheVariants as error
-use Rattle.st_syntax.specs.declared.counts.What.{What}
-use Rattle.st_syntax.specs.declared.token_limits.Over.{Over}
-use Rattle.st_syntax.specs.declared.token_limits.Over.TheVariants as over
-use Rattle.st_syntax.specs.Counts as counts
-use Rattle.st_syntax.specs.Counts.{IsFirstExcess, IsWithinCounts, items_of, first_excess}
-use Rattle.st_syntax.specs.FirstFault.{IsUnexpected, IsFirstFault, place_from}
-use Rattle.st_syntax.specs.Grammar.{Parses}
+use Rattle.st_grammar.specs.declared.counts.What.{What}
+use Rattle.st_grammar.specs.declared.token_limits.Over.{Over}
+use Rattle.st_grammar.specs.declared.token_limits.Over.TheVariants as over
+use Rattle.st_grammar.specs.Counts as counts
+use Rattle.st_grammar.specs.Counts.{IsFirstExcess, IsWithinCounts, items_of, first_excess}
+use Rattle.st_grammar.specs.FirstFault.{IsUnexpected, IsFirstFault, place_from}
+use Rattle.st_grammar.specs.Grammar.{Parses}
 use Rattle.st_parse.specs.Outcomes.{IsProgramOf, StopsUnexpected, HasTooMany, place_of, error_of, counted_by, counted, read_by, read, then_counted, limited_by, answer, IsButForMemory}
-use Rattle.st_reading.specs.Reading.{Outcome, program}
-use Rattle.st_syntax.specs.Terminals.{Terminal, terminal_of, terminals_of}
-use Rattle.st_syntax.specs.TokenLimits as limits
-use Rattle.st_syntax.specs.TokenLimits.{IsWithinTokenLimits, IsFirstOver, first_over}
-use Rattle.st_reading.proofs.Exact.{one_tree, read_is_program, stops_at_fault, LeftAt}
-use Rattle.st_syntax.proofs.FirstLemmas.{none_within, some_first}
-use Rattle.st_reading.proofs.WithinLemmas.{within_reads}
+use Rattle.st_grammar_laws.specs.Reading.{Outcome, program}
+use Rattle.st_grammar.specs.Terminals.{Terminal, terminal_of, terminals_of}
+use Rattle.st_grammar.specs.TokenLimits as limits
+use Rattle.st_grammar.specs.TokenLimits.{IsWithinTokenLimits, IsFirstOver, first_over}
+use Rattle.st_grammar_laws.proofs.Exact.{one_tree, read_is_program, stops_at_fault, LeftAt}
+use Rattle.st_grammar.proofs.FirstLemmas.{none_within, some_first}
+use Rattle.st_grammar_laws.proofs.WithinLemmas.{within_reads}
 
 -- what an answer says
 abbrev pub Meant : List ℕ → List Token → Result Program ParseError → Type 0

@@ -2,12 +2,12 @@
 use Rattle.std.proofs.Common.{◌≡◌, Bool, true, false, List, [], ◌∷◌, ◌++◌, Result, Ok, Err, refl, ap, subst, sym, ◌∙◌, rules}
 use Rattle.std.specs.Prelude.{IsErrAnd}
 use Rattle.std.proofs.lemmas.Result.{err_from_is_err_and}
-use Rattle.st_syntax.specs.declared.sorts.Sort.{Sort}
-use Rattle.st_syntax.specs.declared.sorts.Sort.TheVariants as sort
+use Rattle.st_grammar.specs.declared.sorts.Sort.{Sort}
+use Rattle.st_grammar.specs.declared.sorts.Sort.TheVariants as sort
 use Rattle.st_parse.specs.declared.stops.Stop.{Stop}
 use Rattle.st_parse.specs.declared.stops.Stop.TheVariants as stop
-use Rattle.st_syntax.specs.Terminals.{Terminal, next_sort}
-use Rattle.st_reading.specs.Reading.{Outcome, Reader, and_then, turns, many, one_more, listed, is_sort, after_comma}
+use Rattle.st_grammar.specs.Terminals.{Terminal, next_sort}
+use Rattle.st_grammar_laws.specs.Reading.{Outcome, Reader, and_then, turns, many, one_more, listed, is_sort, after_comma}
 use Rattle.st_parse.specs.Reads.{StopsAt, Reads}
 use Rattle.st_parse.proofs.Turns.{no_turn, turn_refused}
 

@@ -1,10 +1,10 @@
 -- A loop of turns goes on by one turn where the next terminal asks for one.
 use Rattle.std.proofs.Common.{◌≡◌, ℕ, zero, suc, ◌+◌, ◌<◌, ◌≤◌, Bool, true, false, if◌then◌else◌, nat_lt, List, [], ◌∷◌, length, Result, Ok, Err, refl, ap}
 use Rattle.std.proofs.Common.{◌∙◌, arith, rules}
-use Rattle.st_syntax.specs.declared.sorts.Sort.{Sort}
-use Rattle.st_syntax.specs.declared.sorts.Sort.TheVariants as sort
-use Rattle.st_syntax.specs.Terminals.{Terminal, next_sort}
-use Rattle.st_reading.specs.Reading.{Outcome, Reader, and_then, if_shorter, turns_from, turns}
+use Rattle.st_grammar.specs.declared.sorts.Sort.{Sort}
+use Rattle.st_grammar.specs.declared.sorts.Sort.TheVariants as sort
+use Rattle.st_grammar.specs.Terminals.{Terminal, next_sort}
+use Rattle.st_grammar_laws.specs.Reading.{Outcome, Reader, and_then, if_shorter, turns_from, turns}
 
 -- two choices by one test are the same where their first branches are, given that the test holds
 pub chosen_alike : {B : Type 0} (b : Bool) (x y z : B) → (b ≡ true → x ≡ y) → (if b then x else z) ≡ (if b then y else z)

@@ -7,15 +7,15 @@ use Rattle.st_lex.specs.Bytes.{is_newline}
 use Rattle.st_lex.specs.Places.{place_at}
 use Rattle.st_parse.specs.declared.errors.ParseError.{ParseError}
 use Rattle.st_parse.specs.declared.errors.ParseError.TheVariants as error
-use Rattle.st_syntax.specs.declared.counts.What.{What}
-use Rattle.st_syntax.specs.declared.token_limits.Over.{Over}
-use Rattle.st_syntax.specs.declared.token_limits.Over.TheVariants as over
-use Rattle.st_syntax.specs.Counts.{IsWithinCounts, IsFirstExcess, items_of, first_excess}
-use Rattle.st_syntax.specs.FirstFault.{IsUnexpected}
-use Rattle.st_syntax.specs.Grammar.{Parses}
-use Rattle.st_reading.specs.Reading.{Outcome, program}
-use Rattle.st_syntax.specs.Terminals.{Terminal, terminals_of}
-use Rattle.st_syntax.specs.TokenLimits.{IsWithinTokenLimits, first_over}
+use Rattle.st_grammar.specs.declared.counts.What.{What}
+use Rattle.st_grammar.specs.declared.token_limits.Over.{Over}
+use Rattle.st_grammar.specs.declared.token_limits.Over.TheVariants as over
+use Rattle.st_grammar.specs.Counts.{IsWithinCounts, IsFirstExcess, items_of, first_excess}
+use Rattle.st_grammar.specs.FirstFault.{IsUnexpected}
+use Rattle.st_grammar.specs.Grammar.{Parses}
+use Rattle.st_grammar_laws.specs.Reading.{Outcome, program}
+use Rattle.st_grammar.specs.Terminals.{Terminal, terminals_of}
+use Rattle.st_grammar.specs.TokenLimits.{IsWithinTokenLimits, first_over}
 
 -- the tokens of the text spell this program, and nothing is above a limit
 pub record IsProgramOf (text : List ℕ) (tokens : List Token) (p : Program) : Type 0 where

@@ -2,8 +2,8 @@
 use Rattle.std.specs.Prelude.{◌≡◌, ℕ, List, All, drop}
 use Rattle.st_lex.specs.declared.kinds.Token.{Token}
 use Rattle.st_lex.specs.Tokens.{IsToken}
-use Rattle.st_syntax.specs.declared.sorts.Sort.{Sort}
-use Rattle.st_syntax.specs.Terminals.{next_sort, terminals_of}
+use Rattle.st_grammar.specs.declared.sorts.Sort.{Sort}
+use Rattle.st_grammar.specs.Terminals.{next_sort, terminals_of}
 
 -- so many tokens of the text are taken, and this is the sort of the next
 pub record IsPlace (text : List ℕ) (tokens : List Token) (taken : ℕ) (sort : Sort) : Type 0 where

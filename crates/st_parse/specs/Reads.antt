@@ -2,8 +2,8 @@
 use Rattle.std.specs.Prelude.{◌≡◌, List, Result, Ok, Err}
 use Rattle.st_parse.specs.declared.stops.Stop.{Stop}
 use Rattle.st_parse.specs.declared.stops.Stop.TheVariants as stop
-use Rattle.st_reading.specs.Reading.{Outcome}
-use Rattle.st_syntax.specs.Terminals.{Terminal}
+use Rattle.st_grammar_laws.specs.Reading.{Outcome}
+use Rattle.st_grammar.specs.Terminals.{Terminal}
 
 -- the reader stopped for this reason with these terminals left: at a fault the outcome is the fault there, and of want of memory nothing is said
 abbrev pub StopsAt : {A : Type 0} → Outcome A → Stop → List Terminal → Type 0

@@ -1,15 +1,15 @@
 //! Arguments of calls.
 ghost use Rattle.std.specs.Prelude.{◌≡◌, ◌<◌, ◌≤◌, length, OnOk};
-ghost use Rattle.st_reading.specs.Reading as spec;
-ghost use Rattle.st_reading.specs.declared.levels.Level.TheVariants as level;
+ghost use Rattle.st_grammar_laws.specs.Reading as spec;
+ghost use Rattle.st_grammar_laws.specs.declared.levels.Level.TheVariants as level;
 ghost use Rattle.st_parse.specs.Reads.{Reads};
 
 use crate::cursors::Cursor;
 use crate::expressions::nested;
 use crate::stops::Stop;
 use st_ast::{Expr, Items};
-use st_reading::Level;
-use st_syntax::Sort;
+use st_grammar::Sort;
+use st_grammar_laws::Level;
 use std::alloc::Global;
 
 /// `"," expr`.
@@ -23,7 +23,7 @@ fn after_comma(alloc: Global, cursor: &mut Cursor<'_, '_>, depth: usize) -> Resu
 }
 
 /// `expr { "," expr }`.
-#[tactic(auto, unfolding(st_reading::specs::Reading::listed))]
+#[tactic(auto, unfolding(st_grammar_laws::specs::Reading::listed))]
 #[cycle(expr)]
 fn series(alloc: Global, cursor: &mut Cursor<'_, '_>, depth: usize) -> Result<Items<Expr>, Stop>
     ensures reads { Reads (λ found. found) (spec.listed (spec.nested depth level.Whole) cursor.old) result cursor.new }
@@ -38,7 +38,7 @@ fn series(alloc: Global, cursor: &mut Cursor<'_, '_>, depth: usize) -> Result<It
 }
 
 /// `[ args ] ")"`.
-#[tactic(auto, unfolding(st_reading::specs::Reading::args, st_reading::specs::Reading::enclosed))]
+#[tactic(auto, unfolding(st_grammar_laws::specs::Reading::args, st_grammar_laws::specs::Reading::enclosed))]
 #[cycle(expr)]
 pub fn arguments(
     alloc: Global,

@@ -1,7 +1,7 @@
 //! Blocks and the statements that have blocks in them. `depth` says how deep blocks may still nest: each that stands
 //! inside another is read with one less, so the limit on braces bounds the recursion.
 ghost use Rattle.std.specs.Prelude.{◌≡◌, ◌<◌, ◌≤◌, [], length, IfOk, OnOk};
-ghost use Rattle.st_reading.specs.Reading as spec;
+ghost use Rattle.st_grammar_laws.specs.Reading as spec;
 ghost use Rattle.st_parse.specs.Reads.{Reads};
 
 use crate::cursors::Cursor;
@@ -9,11 +9,11 @@ use crate::expressions::expression;
 use crate::statements::{check_stmt, named_stmt, shared_stmt, var_stmt};
 use crate::stops::Stop;
 use st_ast::{Expr, Items, MOST_OPEN_BRACES, Stmt};
-use st_syntax::Sort;
+use st_grammar::Sort;
 use std::alloc::{AllocError, Global};
 
 /// `"(" expr ")"`.
-#[tactic(auto, unfolding(st_reading::specs::Reading::condition))]
+#[tactic(auto, unfolding(st_grammar_laws::specs::Reading::condition))]
 fn condition(alloc: Global, cursor: &mut Cursor<'_, '_>) -> Result<Expr, Stop>
     ensures reads { Reads (λ e. e) (spec.condition cursor.old) result cursor.new }
     ensures shorter { OnOk result (length cursor.new < length cursor.old) }
@@ -26,7 +26,7 @@ fn condition(alloc: Global, cursor: &mut Cursor<'_, '_>) -> Result<Expr, Stop>
 
 /// `[ "else" block ]`.
 #[cycle(block)]
-#[tactic(auto, unfolding(st_reading::specs::Reading::else_part))]
+#[tactic(auto, unfolding(st_grammar_laws::specs::Reading::else_part))]
 fn else_part(
     alloc: Global,
     cursor: &mut Cursor<'_, '_>,
@@ -44,7 +44,7 @@ fn else_part(
 
 /// `"if" "(" expr ")" block [ "else" block ]`.
 #[cycle(block)]
-#[tactic(auto, unfolding(st_reading::specs::Reading::if_stmt))]
+#[tactic(auto, unfolding(st_grammar_laws::specs::Reading::if_stmt))]
 fn if_stmt(alloc: Global, cursor: &mut Cursor<'_, '_>, depth: usize) -> Result<Stmt, Stop>
     ensures reads { Reads (λ s. s) (spec.if_stmt (spec.blocks depth) cursor.old) result cursor.new }
     ensures shorter { OnOk result (length cursor.new < length cursor.old) }
@@ -63,7 +63,7 @@ fn if_stmt(alloc: Global, cursor: &mut Cursor<'_, '_>, depth: usize) -> Result<S
 
 /// `"while" "(" expr ")" block`.
 #[cycle(block)]
-#[tactic(auto, unfolding(st_reading::specs::Reading::while_stmt))]
+#[tactic(auto, unfolding(st_grammar_laws::specs::Reading::while_stmt))]
 fn while_stmt(alloc: Global, cursor: &mut Cursor<'_, '_>, depth: usize) -> Result<Stmt, Stop>
     ensures reads { Reads (λ s. s) (spec.while_stmt (spec.blocks depth) cursor.old) result cursor.new }
     ensures shorter { OnOk result (length cursor.new < length cursor.old) }
@@ -80,7 +80,7 @@ fn while_stmt(alloc: Global, cursor: &mut Cursor<'_, '_>, depth: usize) -> Resul
 
 /// A statement; its first token tells which.
 #[cycle(block)]
-#[tactic(auto, unfolding(st_reading::specs::Reading::statement))]
+#[tactic(auto, unfolding(st_grammar_laws::specs::Reading::statement))]
 fn statement(alloc: Global, cursor: &mut Cursor<'_, '_>, depth: usize) -> Result<Stmt, Stop>
     ensures reads { Reads (λ s. s) (spec.statement (spec.blocks depth) cursor.old) result cursor.new }
     ensures shorter { OnOk result (length cursor.new < length cursor.old) }
@@ -138,7 +138,7 @@ fn block(alloc: Global, cursor: &mut Cursor<'_, '_>, depth: usize) -> Result<Ite
 
 /// `"{" { stmt } "}"`.
 #[cycle(block)]
-#[tactic(auto, unfolding(st_reading::specs::Reading::block_of))]
+#[tactic(auto, unfolding(st_grammar_laws::specs::Reading::block_of))]
 fn braced(alloc: Global, cursor: &mut Cursor<'_, '_>, depth: usize) -> Result<Items<Stmt>, Stop>
     ensures reads { Reads (λ body. body) (spec.block_of (spec.blocks depth) cursor.old) result cursor.new }
     ensures shorter { OnOk result (length cursor.new < length cursor.old) }
@@ -150,7 +150,7 @@ fn braced(alloc: Global, cursor: &mut Cursor<'_, '_>, depth: usize) -> Result<It
 }
 
 /// The block of a procedure or a thread.
-#[tactic(auto, unfolding(st_reading::specs::Reading::body_block))]
+#[tactic(auto, unfolding(st_grammar_laws::specs::Reading::body_block))]
 pub fn body_block(alloc: Global, cursor: &mut Cursor<'_, '_>) -> Result<Items<Stmt>, Stop>
     ensures reads { Reads (λ body. body) (spec.body_block cursor.old) result cursor.new }
     ensures shorter { OnOk result (length cursor.new < length cursor.old) }

@@ -1,7 +1,7 @@
 //! Operators with their operands, level by level.
 ghost use Rattle.std.specs.Prelude.{◌≡◌, ◌<◌, ◌≤◌, length, IfOk, OnOk, Some};
 ghost use Rattle.st_ast.specs.declared.expressions.Expr.TheVariants as expr;
-ghost use Rattle.st_reading.specs.Reading as spec;
+ghost use Rattle.st_grammar_laws.specs.Reading as spec;
 ghost use Rattle.st_parse.specs.Reads.{Reads};
 
 use crate::cursors::Cursor;
@@ -9,7 +9,7 @@ use crate::primaries::unary;
 use crate::stops::Stop;
 use st_ast::{Boxed, Expr, Op};
 use st_events::Site;
-use st_syntax::{Chain, comparison};
+use st_grammar::{Chain, comparison};
 use std::alloc::{AllocError, Global};
 
 /// An operator with its operands.
@@ -25,7 +25,7 @@ fn binary(alloc: Global, op: Op, left: Expr, right: Expr, site: Site) -> Result<
 }
 
 /// An operand of the operators of a level.
-#[tactic(auto, unfolding(st_reading::specs::Reading::or, st_reading::specs::Reading::and, st_reading::specs::Reading::sum, st_reading::specs::Reading::term))]
+#[tactic(auto, unfolding(st_grammar_laws::specs::Reading::or, st_grammar_laws::specs::Reading::and, st_grammar_laws::specs::Reading::sum, st_grammar_laws::specs::Reading::term))]
 #[cycle(expr)]
 fn operand(
     alloc: Global,
@@ -45,7 +45,7 @@ fn operand(
 }
 
 /// The next operator of a level and its right operand.
-#[tactic(auto, unfolding(st_reading::specs::Reading::link))]
+#[tactic(auto, unfolding(st_grammar_laws::specs::Reading::link))]
 #[cycle(expr)]
 fn link(
     alloc: Global,
@@ -68,7 +68,7 @@ fn link(
 }
 
 /// `operand { operator operand }`, grouped to the left.
-#[tactic(auto, unfolding(st_reading::specs::Reading::linked))]
+#[tactic(auto, unfolding(st_grammar_laws::specs::Reading::linked))]
 #[cycle(expr)]
 pub fn linked(
     alloc: Global,
@@ -87,7 +87,7 @@ pub fn linked(
 }
 
 /// `sum [ comparison sum ]`.
-#[tactic(auto, unfolding(st_reading::specs::Reading::cmp, st_reading::specs::Reading::sum))]
+#[tactic(auto, unfolding(st_grammar_laws::specs::Reading::cmp, st_grammar_laws::specs::Reading::sum))]
 #[cycle(expr)]
 fn compared(alloc: Global, cursor: &mut Cursor<'_, '_>, depth: usize) -> Result<Expr, Stop>
     ensures reads { Reads (λ e. e) (spec.cmp (spec.nested depth) cursor.old) result cursor.new }

@@ -1,17 +1,17 @@
 //! A cursor over the tokens of a text.
 ghost use Rattle.std.specs.Prelude.{◌≡◌, ◌<◌, ◌≤◌, All, drop, length, slice_get, OnOk};
 ghost use Rattle.st_lex.specs.Tokens.{IsToken};
-ghost use Rattle.st_reading.specs.Reading as spec;
+ghost use Rattle.st_grammar_laws.specs.Reading as spec;
 ghost use Rattle.st_parse.specs.Reads.{Reads};
-ghost use Rattle.st_syntax.specs.Terminals.{next_sort, terminals_of};
+ghost use Rattle.st_grammar.specs.Terminals.{next_sort, terminals_of};
 
 use crate::stops::Stop;
+use st_grammar::{Lexeme, Sort, same_sort, sort_in};
 use st_lex::Token;
-use st_syntax::{Lexeme, Sort, same_sort, sort_in};
 use std::marker::Model;
 
 /// A place among the tokens of a text. Contracts see the list of the tokens that are left.
-#[derive(Debug, Drop)]
+#[derive(Drop)]
 pub struct Cursor<'t, 'a> {
     text: &'a [u8],
     tokens: &'t [Token],
@@ -23,7 +23,7 @@ pub struct Cursor<'t, 'a> {
 
 impl<'t, 'a> Model for Cursor<'t, 'a> {
     ghost use Rattle.std.specs.Prelude.{List, drop};
-    ghost use Rattle.st_syntax.specs.Terminals.{Terminal, terminals_of};
+    ghost use Rattle.st_grammar.specs.Terminals.{Terminal, terminals_of};
     ghost use Rattle.st_parse.specs.Places.{IsPlace};
 
     ghost Value = { List Terminal };
@@ -65,7 +65,7 @@ impl<'t, 'a> Cursor<'t, 'a> {
     }
 
     /// Whether the next token has the sort.
-    #[tactic(auto, unfolding(st_reading::specs::Reading::sees))]
+    #[tactic(auto, unfolding(st_grammar_laws::specs::Reading::sees))]
     pub fn sees(&self, sort: Sort) -> bool
         ensures { result ≡ spec.sees sort self.now }
     {
@@ -73,7 +73,7 @@ impl<'t, 'a> Cursor<'t, 'a> {
     }
 
     /// Takes the next token, whatever its sort.
-    #[tactic(auto, unfolding(st_reading::specs::Reading::take_any))]
+    #[tactic(auto, unfolding(st_grammar_laws::specs::Reading::take_any))]
     pub fn take(&mut self) -> Result<Lexeme<'a>, Stop>
         ensures reads { Reads (λ lexeme. lexeme) (spec.take_any self.old) result self.new }
         ensures shorter { OnOk result (length self.new < length self.old) }
@@ -90,7 +90,7 @@ impl<'t, 'a> Cursor<'t, 'a> {
     }
 
     /// Takes the next token, which is to have the sort.
-    #[tactic(auto, unfolding(st_reading::specs::Reading::expect, st_reading::specs::Reading::sees, st_reading::specs::Reading::take_any))]
+    #[tactic(auto, unfolding(st_grammar_laws::specs::Reading::expect, st_grammar_laws::specs::Reading::sees, st_grammar_laws::specs::Reading::take_any))]
     pub fn expect(&mut self, sort: Sort) -> Result<Lexeme<'a>, Stop>
         ensures reads { Reads (λ lexeme. lexeme) (spec.expect sort self.old) result self.new }
         ensures shorter { OnOk result (length self.new < length self.old) }

@@ -1,8 +1,8 @@
 //! Declarations and the program, one function for each rule.
 ghost use Rattle.std.specs.Prelude.{◌≡◌, ◌<◌, ◌≤◌, length, OnOk};
-ghost use Rattle.st_reading.specs.Reading as spec;
+ghost use Rattle.st_grammar_laws.specs.Reading as spec;
 ghost use Rattle.st_parse.specs.Reads.{Reads};
-ghost use Rattle.st_syntax.specs.declared.sorts.Sort.TheVariants as sort;
+ghost use Rattle.st_grammar.specs.declared.sorts.Sort.TheVariants as sort;
 
 use crate::blocks::body_block;
 use crate::cursors::Cursor;
@@ -10,11 +10,11 @@ use crate::expressions::expression;
 use crate::places::typed;
 use crate::stops::Stop;
 use st_ast::{Class, Field, Items, Param, Pred, Proc, Thread};
-use st_syntax::Sort;
+use st_grammar::Sort;
 use std::alloc::Global;
 
 /// `name ":" type ";"`.
-#[tactic(auto, unfolding(st_reading::specs::Reading::field))]
+#[tactic(auto, unfolding(st_grammar_laws::specs::Reading::field))]
 fn field(alloc: Global, cursor: &mut Cursor<'_, '_>) -> Result<Field, Stop>
     ensures reads { Reads (λ x. x) (spec.field cursor.old) result cursor.new }
     ensures shorter { OnOk result (length cursor.new < length cursor.old) }
@@ -42,7 +42,7 @@ fn fields(alloc: Global, cursor: &mut Cursor<'_, '_>) -> Result<Items<Field>, St
 }
 
 /// `"{" { field } "}"`.
-#[tactic(auto, unfolding(st_reading::specs::Reading::fields))]
+#[tactic(auto, unfolding(st_grammar_laws::specs::Reading::fields))]
 fn braced_fields(alloc: Global, cursor: &mut Cursor<'_, '_>) -> Result<Items<Field>, Stop>
     ensures reads { Reads (λ found. found) (spec.fields cursor.old) result cursor.new }
     ensures shorter { OnOk result (length cursor.new < length cursor.old) }
@@ -54,7 +54,7 @@ fn braced_fields(alloc: Global, cursor: &mut Cursor<'_, '_>) -> Result<Items<Fie
 }
 
 /// `"class" name "{" { field } "}"`.
-#[tactic(auto, unfolding(st_reading::specs::Reading::class))]
+#[tactic(auto, unfolding(st_grammar_laws::specs::Reading::class))]
 pub fn class(alloc: Global, cursor: &mut Cursor<'_, '_>) -> Result<Class, Stop>
     ensures reads { Reads (λ x. x) (spec.class cursor.old) result cursor.new }
     ensures shorter { OnOk result (length cursor.new < length cursor.old) }
@@ -70,7 +70,7 @@ pub fn class(alloc: Global, cursor: &mut Cursor<'_, '_>) -> Result<Class, Stop>
 }
 
 /// `[ shared ]`.
-#[tactic(auto, unfolding(st_reading::specs::Reading::shared_block))]
+#[tactic(auto, unfolding(st_grammar_laws::specs::Reading::shared_block))]
 pub fn shared_block(alloc: Global, cursor: &mut Cursor<'_, '_>) -> Result<Items<Field>, Stop>
     ensures reads { Reads (λ found. found) (spec.shared_block cursor.old) result cursor.new }
     ensures no_longer { OnOk result (length cursor.new ≤ length cursor.old) }
@@ -83,7 +83,7 @@ pub fn shared_block(alloc: Global, cursor: &mut Cursor<'_, '_>) -> Result<Items<
 }
 
 /// `name ":" type`.
-#[tactic(auto, unfolding(st_reading::specs::Reading::param))]
+#[tactic(auto, unfolding(st_grammar_laws::specs::Reading::param))]
 fn param(alloc: Global, cursor: &mut Cursor<'_, '_>) -> Result<Param, Stop>
     ensures reads { Reads (λ x. x) (spec.param cursor.old) result cursor.new }
     ensures shorter { OnOk result (length cursor.new < length cursor.old) }
@@ -120,7 +120,7 @@ fn listed_params(alloc: Global, cursor: &mut Cursor<'_, '_>) -> Result<Items<Par
 }
 
 /// `"(" [ params ] ")"`.
-#[tactic(auto, unfolding(st_reading::specs::Reading::params, st_reading::specs::Reading::enclosed))]
+#[tactic(auto, unfolding(st_grammar_laws::specs::Reading::params, st_grammar_laws::specs::Reading::enclosed))]
 fn params(alloc: Global, cursor: &mut Cursor<'_, '_>) -> Result<Items<Param>, Stop>
     ensures reads { Reads (λ found. found) (spec.params cursor.old) result cursor.new }
     ensures shorter { OnOk result (length cursor.new < length cursor.old) }
@@ -136,7 +136,7 @@ fn params(alloc: Global, cursor: &mut Cursor<'_, '_>) -> Result<Items<Param>, St
 }
 
 /// `"pred" name "(" [ params ] ")" ":" type "=" expr ";"`.
-#[tactic(auto, unfolding(st_reading::specs::Reading::pred))]
+#[tactic(auto, unfolding(st_grammar_laws::specs::Reading::pred))]
 pub fn pred(alloc: Global, cursor: &mut Cursor<'_, '_>) -> Result<Pred, Stop>
     ensures reads { Reads (λ x. x) (spec.pred cursor.old) result cursor.new }
     ensures shorter { OnOk result (length cursor.new < length cursor.old) }
@@ -158,7 +158,7 @@ pub fn pred(alloc: Global, cursor: &mut Cursor<'_, '_>) -> Result<Pred, Stop>
 }
 
 /// `"proc" name "(" [ params ] ")" block`.
-#[tactic(auto, unfolding(st_reading::specs::Reading::proc))]
+#[tactic(auto, unfolding(st_grammar_laws::specs::Reading::proc))]
 pub fn proc(alloc: Global, cursor: &mut Cursor<'_, '_>) -> Result<Proc, Stop>
     ensures reads { Reads (λ x. x) (spec.proc cursor.old) result cursor.new }
     ensures shorter { OnOk result (length cursor.new < length cursor.old) }
@@ -176,7 +176,7 @@ pub fn proc(alloc: Global, cursor: &mut Cursor<'_, '_>) -> Result<Proc, Stop>
 }
 
 /// `"thread" name block`.
-#[tactic(auto, unfolding(st_reading::specs::Reading::thread))]
+#[tactic(auto, unfolding(st_grammar_laws::specs::Reading::thread))]
 pub fn thread(alloc: Global, cursor: &mut Cursor<'_, '_>) -> Result<Thread, Stop>
     ensures reads { Reads (λ x. x) (spec.thread cursor.old) result cursor.new }
     ensures shorter { OnOk result (length cursor.new < length cursor.old) }

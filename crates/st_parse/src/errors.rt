@@ -3,7 +3,7 @@ ghost use Rattle.std.specs.Prelude.{◌≡◌};
 ghost use Rattle.st_parse.specs.declared.errors.ParseError.TheVariants.{Memory};
 
 use st_events::Site;
-use st_syntax::What;
+use st_grammar::What;
 use std::alloc::{AllocError, AllocFailed};
 use std::fmt;
 use thiserror::Error;

@@ -1,7 +1,7 @@
 //! Expressions, one function for each rule. `depth` says how deep expressions may still nest: each that stands inside
 //! another is read with one less, so the limit on tokens bounds the recursion.
 ghost use Rattle.std.specs.Prelude.{◌≡◌, ◌<◌, ◌≤◌, length, OnOk};
-ghost use Rattle.st_reading.specs.Reading as spec;
+ghost use Rattle.st_grammar_laws.specs.Reading as spec;
 ghost use Rattle.st_parse.specs.Reads.{Reads};
 
 use crate::chains::linked;
@@ -9,12 +9,12 @@ use crate::cursors::Cursor;
 use crate::primaries::unary;
 use crate::stops::Stop;
 use st_ast::{Boxed, Expr};
-use st_reading::Level;
-use st_syntax::{Chain, MOST_TOKENS_BETWEEN, Sort};
+use st_grammar::{Chain, MOST_TOKENS_BETWEEN, Sort};
+use st_grammar_laws::Level;
 use std::alloc::Global;
 
 /// `"?" expr ":" expr`, after its test.
-#[tactic(auto, unfolding(st_reading::specs::Reading::branches))]
+#[tactic(auto, unfolding(st_grammar_laws::specs::Reading::branches))]
 #[cycle(expr)]
 fn branches(
     alloc: Global,
@@ -38,7 +38,7 @@ fn branches(
 }
 
 /// `or [ "?" expr ":" expr ]`.
-#[tactic(auto, unfolding(st_reading::specs::Reading::choice, st_reading::specs::Reading::or))]
+#[tactic(auto, unfolding(st_grammar_laws::specs::Reading::choice, st_grammar_laws::specs::Reading::or))]
 #[cycle(expr)]
 fn choice(alloc: Global, cursor: &mut Cursor<'_, '_>, depth: usize) -> Result<Expr, Stop>
     ensures reads { Reads (λ e. e) (spec.choice (spec.nested depth) cursor.old) result cursor.new }
@@ -53,7 +53,7 @@ fn choice(alloc: Global, cursor: &mut Cursor<'_, '_>, depth: usize) -> Result<Ex
 }
 
 /// An expression of a level, in which expressions nest no deeper than `depth`.
-#[tactic(auto, unfolding(st_reading::specs::Reading::nested))]
+#[tactic(auto, unfolding(st_grammar_laws::specs::Reading::nested))]
 #[cycle(expr)]
 pub fn nested(
     alloc: Global,
@@ -74,7 +74,7 @@ pub fn nested(
 }
 
 /// An expression.
-#[tactic(auto, unfolding(st_reading::specs::Reading::whole))]
+#[tactic(auto, unfolding(st_grammar_laws::specs::Reading::whole))]
 pub fn expression(alloc: Global, cursor: &mut Cursor<'_, '_>) -> Result<Expr, Stop>
     ensures reads { Reads (λ e. e) (spec.whole cursor.old) result cursor.new }
     ensures shorter { OnOk result (length cursor.new < length cursor.old) }

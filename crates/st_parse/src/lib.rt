@@ -8,6 +8,7 @@ mod cursors;
 mod declarations;
 mod errors;
 mod expressions;
+mod laws;
 mod parser;
 mod places;
 mod primaries;
@@ -17,5 +18,6 @@ mod stops;
 mod values;
 
 pub use errors::ParseError;
+pub use laws::one_answer;
 pub use parser::parse;
-pub use st_syntax::What;
+pub use st_grammar::What;

@@ -5,12 +5,12 @@ ghost use Rattle.st_events.specs.declared.events.Site.{Site};
 ghost use Rattle.st_lex.specs.declared.limits.TheConstants.{MOST_SOURCE_BYTES};
 ghost use Rattle.st_lex.specs.Places.{place_at};
 ghost use Rattle.st_lex.specs.Tokens.{IsToken, IsTokensOf};
-ghost use Rattle.st_syntax.specs.declared.counts.What.{What};
-ghost use Rattle.st_syntax.specs.declared.token_limits.Over.TheVariants as over;
+ghost use Rattle.st_grammar.specs.declared.counts.What.{What};
+ghost use Rattle.st_grammar.specs.declared.token_limits.Over.TheVariants as over;
 ghost use Rattle.st_parse.specs.Outcomes as spec;
 ghost use Rattle.st_parse.specs.Outcomes.{IsProgramOf, StopsUnexpected, HasTooMany};
-ghost use Rattle.st_syntax.specs.Terminals.{terminals_of};
-ghost use Rattle.st_syntax.specs.TokenLimits.{IsFirstOver};
+ghost use Rattle.st_grammar.specs.Terminals.{terminals_of};
+ghost use Rattle.st_grammar.specs.TokenLimits.{IsFirstOver};
 
 use crate::cursors::Cursor;
 use crate::errors::ParseError;
@@ -18,8 +18,8 @@ use crate::programs::program;
 use crate::stops::Stop;
 use st_ast::Program;
 use st_events::Site;
+use st_grammar::{Over, first_excess, first_over, items_of};
 use st_lex::Token;
-use st_syntax::{Over, first_excess, first_over, items_of};
 use std::alloc::Global;
 
 /// The tree of a text of at most `MOST_SOURCE_BYTES` bytes, whose tokens these are, where it is a text of the grammar
@@ -27,7 +27,7 @@ use std::alloc::Global;
 ///
 /// `TooDeep` and `TooLong` come first, at the first token above a limit on tokens. Then comes `Unexpected`, at the first
 /// token such that the tokens up to it begin no text of the grammar, or after the last byte. `TooMany` comes last. A text
-/// has one tree at most and one place of a fault at most: see `one_tree` and `one_fault`.
+/// has one tree at most (`one_tree` of st_grammar_laws), and one fault at most, with no tree beside it: see `one_answer`.
 pub fn parse(alloc: Global, text: &[u8], tokens: &[Token]) -> Result<Program, ParseError>
     requires size { length text.now ≤ MOST_SOURCE_BYTES }
     requires tokens { IsTokensOf text.now tokens.now }

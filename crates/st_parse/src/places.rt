@@ -1,17 +1,17 @@
 //! Types, and the places that statements write to.
 ghost use Rattle.std.specs.Prelude.{◌≡◌, ◌<◌, ◌≤◌, length, OnOk, IfOk};
 ghost use Rattle.st_ast.specs.declared.expressions.Expr.TheVariants as expr;
-ghost use Rattle.st_reading.specs.Reading as spec;
+ghost use Rattle.st_grammar_laws.specs.Reading as spec;
 ghost use Rattle.st_parse.specs.Reads.{Reads};
 
 use crate::cursors::Cursor;
 use crate::stops::Stop;
 use st_ast::{Boxed, Expr, TypeName};
-use st_syntax::{Lexeme, Sort};
+use st_grammar::{Lexeme, Sort};
 use std::alloc::{AllocError, Global};
 
 /// A type.
-#[tactic(auto, unfolding(st_reading::specs::Reading::type_name))]
+#[tactic(auto, unfolding(st_grammar_laws::specs::Reading::type_name))]
 pub fn type_name(alloc: Global, cursor: &mut Cursor<'_, '_>) -> Result<TypeName, Stop>
     ensures reads { Reads (λ kind. kind) (spec.type_name cursor.old) result cursor.new }
     ensures shorter { OnOk result (length cursor.new < length cursor.old) }
@@ -34,7 +34,7 @@ pub fn type_name(alloc: Global, cursor: &mut Cursor<'_, '_>) -> Result<TypeName,
 }
 
 /// `":" type`.
-#[tactic(auto, unfolding(st_reading::specs::Reading::typed))]
+#[tactic(auto, unfolding(st_grammar_laws::specs::Reading::typed))]
 pub fn typed(alloc: Global, cursor: &mut Cursor<'_, '_>) -> Result<TypeName, Stop>
     ensures reads { Reads (λ kind. kind) (spec.typed cursor.old) result cursor.new }
     ensures shorter { OnOk result (length cursor.new < length cursor.old) }
@@ -44,7 +44,7 @@ pub fn typed(alloc: Global, cursor: &mut Cursor<'_, '_>) -> Result<TypeName, Sto
 }
 
 /// `"." name` after an object.
-#[tactic(auto, unfolding(st_reading::specs::Reading::field_after))]
+#[tactic(auto, unfolding(st_grammar_laws::specs::Reading::field_after))]
 fn field_after(alloc: Global, cursor: &mut Cursor<'_, '_>, object: Expr) -> Result<Expr, Stop>
     ensures reads { Reads (λ e. e) (spec.field_after object cursor.old) result cursor.new }
     ensures shorter { OnOk result (length cursor.new < length cursor.old) }
@@ -71,7 +71,7 @@ pub fn fields_after(alloc: Global, cursor: &mut Cursor<'_, '_>, object: Expr) ->
 }
 
 /// `"shared" "." name`.
-#[tactic(auto, unfolding(st_reading::specs::Reading::shared_field))]
+#[tactic(auto, unfolding(st_grammar_laws::specs::Reading::shared_field))]
 pub fn shared_field(alloc: Global, cursor: &mut Cursor<'_, '_>) -> Result<Expr, Stop>
     ensures reads { Reads (λ e. e) (spec.shared_field cursor.old) result cursor.new }
     ensures shorter { OnOk result (length cursor.new < length cursor.old) }
@@ -96,7 +96,7 @@ pub fn local(alloc: Global, name: &Lexeme<'_>) -> Result<Expr, AllocError>
 }
 
 /// The fields of a place that begins with this local: at least one.
-#[tactic(auto, unfolding(st_reading::specs::Reading::place_after))]
+#[tactic(auto, unfolding(st_grammar_laws::specs::Reading::place_after))]
 pub fn place_after(
     alloc: Global,
     cursor: &mut Cursor<'_, '_>,
@@ -111,7 +111,7 @@ pub fn place_after(
 }
 
 /// A place.
-#[tactic(auto, unfolding(st_reading::specs::Reading::place))]
+#[tactic(auto, unfolding(st_grammar_laws::specs::Reading::place))]
 pub fn place(alloc: Global, cursor: &mut Cursor<'_, '_>) -> Result<Expr, Stop>
     ensures reads { Reads (λ e. e) (spec.place cursor.old) result cursor.new }
     ensures shorter { OnOk result (length cursor.new < length cursor.old) }

@@ -1,6 +1,6 @@
 //! Operands: what stands between operators.
 ghost use Rattle.std.specs.Prelude.{◌≡◌, ◌<◌, ◌≤◌, length, OnOk};
-ghost use Rattle.st_reading.specs.Reading as spec;
+ghost use Rattle.st_grammar_laws.specs.Reading as spec;
 ghost use Rattle.st_parse.specs.Reads.{Reads};
 
 use crate::arguments::arguments;
@@ -9,12 +9,12 @@ use crate::expressions::nested;
 use crate::places::{fields_after, local, shared_field};
 use crate::stops::Stop;
 use st_ast::{Boxed, Expr};
-use st_reading::Level;
-use st_syntax::Sort;
+use st_grammar::Sort;
+use st_grammar_laws::Level;
 use std::alloc::Global;
 
 /// A token that is an expression by itself.
-#[tactic(auto, unfolding(st_reading::specs::Reading::literal))]
+#[tactic(auto, unfolding(st_grammar_laws::specs::Reading::literal))]
 fn literal(cursor: &mut Cursor<'_, '_>) -> Result<Expr, Stop>
     ensures reads { Reads (λ e. e) (spec.literal cursor.old) result cursor.new }
     ensures shorter { OnOk result (length cursor.new < length cursor.old) }
@@ -43,7 +43,7 @@ fn literal(cursor: &mut Cursor<'_, '_>) -> Result<Expr, Stop>
 }
 
 /// `name | name "(" [ args ] ")"`.
-#[tactic(auto, unfolding(st_reading::specs::Reading::named))]
+#[tactic(auto, unfolding(st_grammar_laws::specs::Reading::named))]
 #[cycle(expr)]
 fn named(alloc: Global, cursor: &mut Cursor<'_, '_>, depth: usize) -> Result<Expr, Stop>
     ensures reads { Reads (λ e. e) (spec.named (spec.nested depth) cursor.old) result cursor.new }
@@ -63,7 +63,7 @@ fn named(alloc: Global, cursor: &mut Cursor<'_, '_>, depth: usize) -> Result<Exp
 }
 
 /// `"(" expr ")"`.
-#[tactic(auto, unfolding(st_reading::specs::Reading::paren))]
+#[tactic(auto, unfolding(st_grammar_laws::specs::Reading::paren))]
 #[cycle(expr)]
 fn paren(alloc: Global, cursor: &mut Cursor<'_, '_>, depth: usize) -> Result<Expr, Stop>
     ensures reads { Reads (λ e. e) (spec.paren (spec.nested depth) cursor.old) result cursor.new }
@@ -79,7 +79,7 @@ fn paren(alloc: Global, cursor: &mut Cursor<'_, '_>, depth: usize) -> Result<Exp
 }
 
 /// `number | "true" | "false" | "null" | name | name "(" [ args ] ")" | "shared" "." name | "(" expr ")"`.
-#[tactic(auto, unfolding(st_reading::specs::Reading::primary, st_reading::specs::Reading::literal))]
+#[tactic(auto, unfolding(st_grammar_laws::specs::Reading::primary, st_grammar_laws::specs::Reading::literal))]
 #[cycle(expr)]
 fn primary(alloc: Global, cursor: &mut Cursor<'_, '_>, depth: usize) -> Result<Expr, Stop>
     ensures reads { Reads (λ e. e) (spec.primary (spec.nested depth) cursor.old) result cursor.new }
@@ -94,7 +94,7 @@ fn primary(alloc: Global, cursor: &mut Cursor<'_, '_>, depth: usize) -> Result<E
 }
 
 /// `primary { "." name }`.
-#[tactic(auto, unfolding(st_reading::specs::Reading::postfix))]
+#[tactic(auto, unfolding(st_grammar_laws::specs::Reading::postfix))]
 #[cycle(expr)]
 fn postfix(alloc: Global, cursor: &mut Cursor<'_, '_>, depth: usize) -> Result<Expr, Stop>
     ensures reads { Reads (λ e. e) (spec.postfix (spec.nested depth) cursor.old) result cursor.new }
@@ -105,7 +105,7 @@ fn postfix(alloc: Global, cursor: &mut Cursor<'_, '_>, depth: usize) -> Result<E
 }
 
 /// `( "!" | "-" ) unary | postfix`.
-#[tactic(auto, unfolding(st_reading::specs::Reading::unary))]
+#[tactic(auto, unfolding(st_grammar_laws::specs::Reading::unary))]
 #[cycle(expr)]
 pub fn unary(alloc: Global, cursor: &mut Cursor<'_, '_>, depth: usize) -> Result<Expr, Stop>
     ensures reads { Reads (λ e. e) (spec.unary (spec.nested depth) cursor.old) result cursor.new }

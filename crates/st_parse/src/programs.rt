@@ -1,14 +1,14 @@
 //! The program: its declarations in their order.
 ghost use Rattle.std.specs.Prelude.{◌≡◌, ◌<◌, ◌≤◌, length, OnOk};
-ghost use Rattle.st_reading.specs.Reading as spec;
+ghost use Rattle.st_grammar_laws.specs.Reading as spec;
 ghost use Rattle.st_parse.specs.Reads.{Reads};
-ghost use Rattle.st_syntax.specs.declared.sorts.Sort.TheVariants as sort;
+ghost use Rattle.st_grammar.specs.declared.sorts.Sort.TheVariants as sort;
 
 use crate::cursors::Cursor;
 use crate::declarations::{class, pred, proc, shared_block, thread};
 use crate::stops::Stop;
 use st_ast::{Class, Items, Pred, Proc, Program, Thread};
-use st_syntax::Sort;
+use st_grammar::Sort;
 use std::alloc::Global;
 
 /// `{ class }`.
@@ -56,7 +56,7 @@ fn threads(alloc: Global, cursor: &mut Cursor<'_, '_>) -> Result<Items<Thread>, 
 }
 
 /// The end of the text.
-#[tactic(auto, unfolding(st_reading::specs::Reading::finish))]
+#[tactic(auto, unfolding(st_grammar_laws::specs::Reading::finish))]
 fn finish(cursor: &Cursor<'_, '_>) -> Result<(), Stop>
     ensures { Reads (λ x. tt) (spec.finish cursor.now) result cursor.now }
 {
@@ -67,7 +67,7 @@ fn finish(cursor: &Cursor<'_, '_>) -> Result<(), Stop>
 }
 
 /// `{ class } [ shared ] { pred } { proc } { thread }`, and then the end.
-#[tactic(auto, unfolding(st_reading::specs::Reading::program))]
+#[tactic(auto, unfolding(st_grammar_laws::specs::Reading::program))]
 pub fn program(alloc: Global, cursor: &mut Cursor<'_, '_>) -> Result<Program, Stop>
     ensures { Reads (λ x. x) (spec.program cursor.old) result cursor.new }
 {

@@ -1,6 +1,6 @@
 //! Statements that have no blocks in them, one function for each rule.
 ghost use Rattle.std.specs.Prelude.{◌≡◌, ◌<◌, ◌≤◌, length, OnOk};
-ghost use Rattle.st_reading.specs.Reading as spec;
+ghost use Rattle.st_grammar_laws.specs.Reading as spec;
 ghost use Rattle.st_parse.specs.Reads.{Reads};
 
 use crate::arguments::arguments;
@@ -10,11 +10,11 @@ use crate::places::{place, place_after, typed};
 use crate::stops::Stop;
 use crate::values::assigned;
 use st_ast::{Expr, Stmt};
-use st_syntax::{Lexeme, MOST_TOKENS_BETWEEN, Sort};
+use st_grammar::{Lexeme, MOST_TOKENS_BETWEEN, Sort};
 use std::alloc::Global;
 
 /// `"var" name ":" type "=" value ";"`.
-#[tactic(auto, unfolding(st_reading::specs::Reading::var_stmt))]
+#[tactic(auto, unfolding(st_grammar_laws::specs::Reading::var_stmt))]
 pub fn var_stmt(alloc: Global, cursor: &mut Cursor<'_, '_>) -> Result<Stmt, Stop>
     ensures reads { Reads (λ s. s) (spec.var_stmt cursor.old) result cursor.new }
     ensures shorter { OnOk result (length cursor.new < length cursor.old) }
@@ -33,7 +33,7 @@ pub fn var_stmt(alloc: Global, cursor: &mut Cursor<'_, '_>) -> Result<Stmt, Stop
 }
 
 /// `"=" value ";"` after a place.
-#[tactic(auto, unfolding(st_reading::specs::Reading::put_after))]
+#[tactic(auto, unfolding(st_grammar_laws::specs::Reading::put_after))]
 fn put_after(alloc: Global, cursor: &mut Cursor<'_, '_>, place: Expr) -> Result<Stmt, Stop>
     ensures reads { Reads (λ s. s) (spec.put_after place cursor.old) result cursor.new }
     ensures shorter { OnOk result (length cursor.new < length cursor.old) }
@@ -44,7 +44,7 @@ fn put_after(alloc: Global, cursor: &mut Cursor<'_, '_>, place: Expr) -> Result<
 }
 
 /// `"(" [ args ] ")" ";"` after a name.
-#[tactic(auto, unfolding(st_reading::specs::Reading::call_after, st_reading::specs::Reading::args, st_reading::specs::Reading::whole))]
+#[tactic(auto, unfolding(st_grammar_laws::specs::Reading::call_after, st_grammar_laws::specs::Reading::args, st_grammar_laws::specs::Reading::whole))]
 fn call_after(alloc: Global, cursor: &mut Cursor<'_, '_>, name: &Lexeme<'_>) -> Result<Stmt, Stop>
     ensures reads { Reads (λ s. s) (spec.call_after name.now cursor.old) result cursor.new }
     ensures shorter { OnOk result (length cursor.new < length cursor.old) }
@@ -73,7 +73,7 @@ fn assign_after(alloc: Global, cursor: &mut Cursor<'_, '_>, name: &Lexeme<'_>) -
 }
 
 /// A statement that begins with a name.
-#[tactic(auto, unfolding(st_reading::specs::Reading::named_stmt))]
+#[tactic(auto, unfolding(st_grammar_laws::specs::Reading::named_stmt))]
 pub fn named_stmt(alloc: Global, cursor: &mut Cursor<'_, '_>) -> Result<Stmt, Stop>
     ensures reads { Reads (λ s. s) (spec.named_stmt cursor.old) result cursor.new }
     ensures shorter { OnOk result (length cursor.new < length cursor.old) }
@@ -91,7 +91,7 @@ pub fn named_stmt(alloc: Global, cursor: &mut Cursor<'_, '_>) -> Result<Stmt, St
 }
 
 /// A statement that begins with the shared object.
-#[tactic(auto, unfolding(st_reading::specs::Reading::shared_stmt))]
+#[tactic(auto, unfolding(st_grammar_laws::specs::Reading::shared_stmt))]
 pub fn shared_stmt(alloc: Global, cursor: &mut Cursor<'_, '_>) -> Result<Stmt, Stop>
     ensures reads { Reads (λ s. s) (spec.shared_stmt cursor.old) result cursor.new }
     ensures shorter { OnOk result (length cursor.new < length cursor.old) }
@@ -101,7 +101,7 @@ pub fn shared_stmt(alloc: Global, cursor: &mut Cursor<'_, '_>) -> Result<Stmt, S
 }
 
 /// `"check" expr ";"`.
-#[tactic(auto, unfolding(st_reading::specs::Reading::check_stmt))]
+#[tactic(auto, unfolding(st_grammar_laws::specs::Reading::check_stmt))]
 pub fn check_stmt(alloc: Global, cursor: &mut Cursor<'_, '_>) -> Result<Stmt, Stop>
     ensures reads { Reads (λ s. s) (spec.check_stmt cursor.old) result cursor.new }
     ensures shorter { OnOk result (length cursor.new < length cursor.old) }

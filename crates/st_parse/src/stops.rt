@@ -5,7 +5,7 @@ ghost use Rattle.st_parse.specs.declared.stops.Stop.TheVariants.{Memory};
 use std::alloc::{AllocError, AllocFailed};
 
 /// Why a reader stops. At `Fault` its cursor stands at the fault.
-#[derive(Clone, Copy, Debug, PartialEq, Eq)]
+#[derive(Clone, Copy)]
 pub enum Stop {
     /// Memory was asked for and refused.
     Memory,

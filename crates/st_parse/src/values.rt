@@ -1,6 +1,6 @@
 //! The values that statements give.
 ghost use Rattle.std.specs.Prelude.{◌≡◌, ◌<◌, ◌≤◌, length, OnOk};
-ghost use Rattle.st_reading.specs.Reading as spec;
+ghost use Rattle.st_grammar_laws.specs.Reading as spec;
 ghost use Rattle.st_parse.specs.Reads.{Reads};
 
 use crate::cursors::Cursor;
@@ -8,11 +8,11 @@ use crate::expressions::expression;
 use crate::places::place;
 use crate::stops::Stop;
 use st_ast::Value;
-use st_syntax::Sort;
+use st_grammar::Sort;
 use std::alloc::Global;
 
 /// `"new" name`.
-#[tactic(auto, unfolding(st_reading::specs::Reading::new_value))]
+#[tactic(auto, unfolding(st_grammar_laws::specs::Reading::new_value))]
 fn new_value(alloc: Global, cursor: &mut Cursor<'_, '_>) -> Result<Value, Stop>
     ensures reads { Reads (λ v. v) (spec.new_value cursor.old) result cursor.new }
     ensures shorter { OnOk result (length cursor.new < length cursor.old) }
@@ -26,7 +26,7 @@ fn new_value(alloc: Global, cursor: &mut Cursor<'_, '_>) -> Result<Value, Stop>
 }
 
 /// `"cas" "(" place "," expr "," expr ")"`.
-#[tactic(auto, unfolding(st_reading::specs::Reading::cas_value))]
+#[tactic(auto, unfolding(st_grammar_laws::specs::Reading::cas_value))]
 fn cas_value(alloc: Global, cursor: &mut Cursor<'_, '_>) -> Result<Value, Stop>
     ensures reads { Reads (λ v. v) (spec.cas_value cursor.old) result cursor.new }
     ensures shorter { OnOk result (length cursor.new < length cursor.old) }
@@ -48,7 +48,7 @@ fn cas_value(alloc: Global, cursor: &mut Cursor<'_, '_>) -> Result<Value, Stop>
 }
 
 /// A value; its first token tells which.
-#[tactic(auto, unfolding(st_reading::specs::Reading::value_here))]
+#[tactic(auto, unfolding(st_grammar_laws::specs::Reading::value_here))]
 fn value_here(alloc: Global, cursor: &mut Cursor<'_, '_>) -> Result<Value, Stop>
     ensures reads { Reads (λ v. v) (spec.value_here cursor.old) result cursor.new }
     ensures shorter { OnOk result (length cursor.new < length cursor.old) }
@@ -61,7 +61,7 @@ fn value_here(alloc: Global, cursor: &mut Cursor<'_, '_>) -> Result<Value, Stop>
 }
 
 /// `"=" value ";"`.
-#[tactic(auto, unfolding(st_reading::specs::Reading::assigned))]
+#[tactic(auto, unfolding(st_grammar_laws::specs::Reading::assigned))]
 pub fn assigned(alloc: Global, cursor: &mut Cursor<'_, '_>) -> Result<Value, Stop>
     ensures reads { Reads (λ v. v) (spec.assigned cursor.old) result cursor.new }
     ensures shorter { OnOk result (length cursor.new < length cursor.old) }

@@ -1,3 +1,4 @@
 pub mod CheckLemmas
 pub mod PieceLemmas
 pub mod JsonLemmas
+pub mod ValueLemmas

@@ -2,5 +2,6 @@
 pub mod Checks
 pub mod Counts
 pub mod Json
+pub mod JsonValue
 pub mod Report
 pub mod Status

@@ -1,20 +1,38 @@
 //! The report of a run as one line of JSON.
-ghost use Rattle.std.specs.Prelude.{◌≡◌, ◌++◌, map, IfOk, OnOk};
+ghost use Rattle.std.specs.Prelude.{◌≡◌, ◌++◌, codes, map, IfOk, OnOk};
 ghost use Rattle.std.specs.List.{enumerate_from, flat_map, zip};
+ghost use Rattle.serde_json.specs.Written.{compact_text};
 ghost use Rattle.st_report.specs.Checks.{checks_of};
-ghost use Rattle.st_report.specs.Json.{before_comma, check_items, check_json, checks_before_commas, count_json, end_before_comma, joined, json_line as json_line_of, json_of_parts, json_text, name_text as name_text_of, thread_json};
+ghost use Rattle.st_report.specs.Json.{before_comma, check_items, checks_before_commas, count_json, end_before_comma};
+ghost use Rattle.st_report.specs.Json.{joined, json_line as json_line_of, json_of_parts, json_text, thread_json};
+ghost use Rattle.st_report.specs.JsonValue.{report_value};
 
 use crate::checks::{LaunchedCheck, collect_checks};
-use crate::objects::{check_value, count_value, thread_value};
-use crate::tallies::{count_fails, count_holds, count_other};
+use crate::json_objects::{check_text, count_text, thread_text};
 use st_events::{End, Event, NoMemory, Ran, Site, Verdict};
-use st_texts::{EndText, VerdictText};
 use std::alloc::Global;
 
 /// The report of a run of a program whose threads have these names and whose check statements stand at these places, both in
 /// the order of the source, as one line of JSON without blanks: the launched checks, the counts, and the threads with their ends.
-#[tactic(auto, unfolding(crate::specs::Json::json_text))]
+#[tactic(auto, using(crate::proofs::ValueLemmas::line_tells_the_value))]
 pub fn report_json(
+    alloc: Global,
+    threads: &[&[u8]],
+    places: &[Site],
+    ran: &Ran,
+) -> Result<Vec<u8>, NoMemory>
+    ensures text { IfOk result (λ text. text.items ≡ json_text (map (λ name. name.now) threads.now) places.now ran.now) }
+
+    // It is the text that serde_json gives the report as a value, and a newline.
+    ensures value { IfOk result (λ text. text.items ≡ compact_text (report_value (map (λ name. name.now) threads.now) places.now ran.now) ++ codes "\n") }
+{
+    let line = line_of_run(alloc, threads, places, ran)?;
+    Ok(line)
+}
+
+/// The line of what a run leaves.
+#[tactic(auto, unfolding(crate::specs::Json::json_text))]
+fn line_of_run(
     alloc: Global,
     threads: &[&[u8]],
     places: &[Site],
@@ -162,49 +180,4 @@ fn put_item(list: &mut Vec<u8>, item: &[u8]) -> Result<(), NoMemory>
 {
     list.extend_from_slice(item)?;
     Ok(list.extend_from_slice(b",")?)
-}
-
-/// A launched check as an object.
-fn check_text(alloc: Global, thread: &[u8], check: LaunchedCheck) -> Result<Vec<u8>, NoMemory>
-    ensures { IfOk result (λ text. text.items ≡ check_json thread.now check) }
-{
-    let LaunchedCheck {
-        event,
-        place,
-        verdict,
-    } = check;
-    let verdict = VerdictText(verdict).to_string(alloc)?;
-    let value = check_value(alloc, event, place, name_text(thread), verdict.as_str())?;
-    Ok(value.to_vec(alloc)?)
-}
-
-/// The end of a thread as an object.
-fn thread_text(alloc: Global, thread: &[u8], end: End) -> Result<Vec<u8>, NoMemory>
-    ensures { IfOk result (λ text. text.items ≡ thread_json (thread.now, end)) }
-{
-    let end = EndText(end).to_string(alloc)?;
-    let value = thread_value(alloc, end.as_str(), name_text(thread))?;
-    Ok(value.to_vec(alloc)?)
-}
-
-/// The counts as an object.
-fn count_text(alloc: Global, verdicts: &[Verdict]) -> Result<Vec<u8>, NoMemory>
-    ensures { IfOk result (λ text. text.items ≡ count_json verdicts.now) }
-{
-    let checks = verdicts.len();
-    let fails = count_fails(verdicts);
-    let holds = count_holds(verdicts);
-    let other = count_other(verdicts);
-    let value = count_value(alloc, checks, fails, holds, other)?;
-    Ok(value.to_vec(alloc)?)
-}
-
-/// The name of a thread, if it is text; names of a source are.
-fn name_text(name: &[u8]) -> &str
-    ensures { result.now ≡ name_text_of name.now }
-{
-    match str::from_utf8(name) {
-        Ok(text) => text,
-        Err(_) => "",
-    }
 }

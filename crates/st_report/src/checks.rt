@@ -1,13 +1,13 @@
 //! The checks that a thread launched, from the journal of a run.
 ghost use Rattle.std.specs.Prelude.{◌≡◌, IfOk};
 ghost use Rattle.st_events.specs.History.{is_own as is_own_of};
-ghost use Rattle.st_report.specs.Checks.{check_in, checks_of};
+ghost use Rattle.st_report.specs.Checks.{check_in, checks_of, verdict_of};
 
 use st_events::{Event, NoMemory, Site, Verdict};
 use std::alloc::Global;
 
 /// A launched check, as every output tells it.
-#[derive(Clone, Copy, Debug)]
+#[derive(Clone, Copy)]
 pub(crate) struct LaunchedCheck {
     /// The number of its launch among the thread's own events, from 1.
     pub(crate) event: usize,
@@ -67,13 +67,24 @@ fn find_check(
     match event {
         Event::Launch { number, site, .. } => {
             let place = places.get(usize::from(site))?;
-            let verdict = verdicts.get((number as usize).saturating_sub(1))?;
+            let verdict = find_verdict(verdicts, number)?;
             Some(LaunchedCheck {
                 event: own,
                 place: *place,
-                verdict: *verdict,
+                verdict,
             })
         }
         _ => None,
+    }
+}
+
+/// The verdict of the check of this number, from 1, if there is one.
+fn find_verdict(verdicts: &[Verdict], number: u32) -> Option<Verdict>
+    ensures { result ≡ verdict_of verdicts.now number }
+{
+    if number == 0 {
+        None
+    } else {
+        verdicts.get(number as usize - 1).copied()
     }
 }

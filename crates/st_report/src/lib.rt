@@ -3,6 +3,7 @@
 
 mod as_json;
 mod checks;
+mod json_objects;
 mod last_lines;
 mod objects;
 mod reports;

@@ -11,16 +11,16 @@ use Rattle.st_events.specs.declared.limits.Sizes.{Sizes}
 use Rattle.st_events.specs.declared.shapes.Kind.{Kind}
 use Rattle.st_events.specs.declared.verdicts.Verdict.{Verdict}
 use Rattle.st_events.specs.Terms.{ShapeLists, IsLegal, World, active_checks, epoch_of}
-use Rattle.st_program.specs.Terms.{Program}
-use Rattle.st_meaning.specs.Plain.{check_course}
-use Rattle.st_meaning.specs.Turns.{turn_of}
-use Rattle.st_threads.specs.Right.{words_of}
+use Rattle.st_resolved.specs.Terms.{Program}
+use Rattle.st_check_meaning.specs.Plain.{check_course}
+use Rattle.st_check_meaning.specs.Turns.{turn_of}
+use Rattle.st_thread_meaning.specs.Right.{words_of}
 use Rattle.st_eval.specs.declared.evals.Eval.{Eval}
 use Rattle.st_eval.specs.Evaluations.{IsMadeFor, budget}
 use Rattle.st_snap.specs.declared.lanes.Lane.{Lane}
 use Rattle.st_snap.specs.Snapshots.{Snapshots, IsLaneOf, IsLegalHeap, HasSpare, world_of, active_now, are_args_of, with_event}
-use Rattle.st_schedule.specs.States.{State, has_read}
-use Rattle.st_schedule.proofs.RetiresLemmas.{world_after_retires}
+use Rattle.st_run_meaning.specs.States.{State, has_read}
+use Rattle.st_run_meaning.proofs.RetiresLemmas.{world_after_retires}
 use Rattle.st_sched.specs.declared.checks.ActiveCheck.{ActiveCheck}
 use Rattle.st_sched.specs.declared.running.Running.{Running}
 use Rattle.st_sched.specs.Checks.{AwaitsTurn}

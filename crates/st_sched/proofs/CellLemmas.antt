@@ -17,16 +17,16 @@ use Rattle.st_events.proofs.KeptLemmas.{and_parts, and_both}
 use Rattle.st_events.proofs.LaunchLemmas.{launch_is_found}
 use Rattle.st_events.proofs.LegalLemmas.{prefix_is_legal}
 use Rattle.st_events.proofs.SoundLemmas.{legal_is_sound}
-use Rattle.st_program.specs.Terms.{Program}
-use Rattle.st_program.specs.WellFormed.{IsWellFormed}
-use Rattle.st_meaning.specs.Laws.{IsTypedCell}
-use Rattle.st_meaning.specs.Plain.{Cell as CellRead}
-use Rattle.st_meaning.specs.Safe.{AreOfKinds}
-use Rattle.st_meaning.proofs.CheckLemmas.{checks_read_cells_that_exist}
-use Rattle.st_threads.specs.Right.{words_of}
+use Rattle.st_resolved.specs.Terms.{Program}
+use Rattle.st_resolved.specs.WellFormed.{IsWellFormed}
+use Rattle.st_check_meaning.specs.Laws.{IsTypedCell}
+use Rattle.st_check_meaning.specs.Plain.{Cell as CellRead}
+use Rattle.st_check_meaning.specs.Safe.{AreOfKinds}
+use Rattle.st_check_meaning.proofs.CheckLemmas.{checks_read_cells_that_exist}
+use Rattle.st_thread_meaning.specs.Right.{words_of}
 use Rattle.st_eval.specs.Laws.{HasSmallNumbers}
 use Rattle.st_eval.proofs.ObjectLemmas.{objects_are_told}
-use Rattle.st_schedule.specs.Agents.{cells_of}
+use Rattle.st_run_meaning.specs.Agents.{cells_of}
 use Rattle.st_sched.proofs.CourseLemmas.{AreSmall}
 
 -- each object of a sound world has a number of 32 bits

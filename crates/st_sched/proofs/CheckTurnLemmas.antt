@@ -6,12 +6,12 @@ use Rattle.st_events.specs.declared.limits.Sizes.{Sizes}
 use Rattle.st_events.specs.declared.verdicts.Verdict.TheVariants.{Abandoned}
 use Rattle.st_events.specs.Sound.{IsSoundWorld}
 use Rattle.st_events.specs.Terms.{ShapeLists, world_after}
-use Rattle.st_program.specs.Terms.{Program}
+use Rattle.st_resolved.specs.Terms.{Program}
 use Rattle.st_eval.specs.Evaluations.{IsMadeFor, budget, turn_by}
 use Rattle.st_snap.specs.Snapshots.{Snapshots, IsLaneOf, HadCell, word_at_launch, is_lost_for}
-use Rattle.st_schedule.specs.States.{State}
-use Rattle.st_schedule.specs.Agents.{Agent, check, has_finished}
-use Rattle.st_schedule.proofs.AgentLemmas.{chosen_is_ready}
+use Rattle.st_run_meaning.specs.States.{State}
+use Rattle.st_run_meaning.specs.Agents.{Agent, check, has_finished}
+use Rattle.st_run_meaning.proofs.AgentLemmas.{chosen_is_ready}
 use Rattle.st_sched.specs.declared.checks.ActiveCheck.{ActiveCheck}
 use Rattle.st_sched.specs.declared.checks.Awaits.TheVariants.{Cell, Retire}
 use Rattle.st_sched.specs.declared.running.Running.{Running}

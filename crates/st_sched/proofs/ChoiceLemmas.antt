@@ -13,17 +13,17 @@ use Rattle.st_events.specs.Sizes.{AreWithinLimits}
 use Rattle.st_events.specs.Sound.{IsSoundWorld}
 use Rattle.st_events.specs.Terms.{ShapeLists, Launched, is_among, world_after, active_checks}
 use Rattle.st_events.proofs.SoundLemmas.{legal_is_sound}
-use Rattle.st_program.specs.Terms.{Program}
-use Rattle.st_program.specs.WellFormed.{IsWellFormed}
+use Rattle.st_resolved.specs.Terms.{Program}
+use Rattle.st_resolved.specs.WellFormed.{IsWellFormed}
 use Rattle.st_eval.specs.declared.evals.Eval.{Eval}
 use Rattle.st_mutator.specs.Mutators.{turn_of_want}
-use Rattle.st_schedule.specs.declared.limits.TheConstants.{LOW_BITS}
-use Rattle.st_schedule.specs.States.{Progress, State}
-use Rattle.st_schedule.specs.Agents.{request_of, cells_of, cell_after, cell_asked, has_finished, can_launch, can_turn, mutator, check, agents, number_after, next_agent}
-use Rattle.st_schedule.specs.Agents as model
-use Rattle.st_schedule.specs.SoundStates.{IsSoundState}
-use Rattle.st_schedule.proofs.AgentLemmas.{chosen_is_ready}
-use Rattle.st_threads.specs.Threads.{Turn}
+use Rattle.st_run_meaning.specs.declared.limits.TheConstants.{LOW_BITS}
+use Rattle.st_run_meaning.specs.States.{Progress, State}
+use Rattle.st_run_meaning.specs.Agents.{request_of, cells_of, cell_after, cell_asked, has_finished, can_launch, can_turn, mutator, check, agents, number_after, next_agent}
+use Rattle.st_run_meaning.specs.Agents as model
+use Rattle.st_run_meaning.specs.SoundStates.{IsSoundState}
+use Rattle.st_run_meaning.proofs.AgentLemmas.{chosen_is_ready}
+use Rattle.st_thread_meaning.specs.Threads.{Turn}
 use Rattle.st_sched.specs.declared.agents.Agent.{Agent}
 use Rattle.st_sched.specs.declared.agents.Agent.TheVariants.{Mutator, Check}
 use Rattle.st_sched.specs.declared.checks.ActiveCheck.{ActiveCheck}

@@ -3,15 +3,15 @@ use Rattle.std.proofs.Common.{◌≡◌, ℕ, zero, suc, ◌+◌, ◌<◌, ◌^�
 use Rattle.st_events.specs.declared.limits.Sizes.{Sizes}
 use Rattle.st_events.specs.declared.verdicts.Verdict.TheVariants.{Plain as Value, Abandoned}
 use Rattle.st_events.specs.Terms.{Heap, Launched}
-use Rattle.st_program.specs.Terms.{Program}
-use Rattle.st_meaning.specs.Plain.{Cell as CellRead, Followed, after_reading, word_found, followed, check_course, cells_read, plain_value}
-use Rattle.st_meaning.specs.Turns.{Turn, turn_of, followed_from}
-use Rattle.st_meaning.proofs.TurnLemmas.{following_is_by_turns}
-use Rattle.st_threads.specs.Right.{words_of}
+use Rattle.st_resolved.specs.Terms.{Program}
+use Rattle.st_check_meaning.specs.Plain.{Cell as CellRead, Followed, after_reading, word_found, followed, check_course, cells_read, plain_value}
+use Rattle.st_check_meaning.specs.Turns.{Turn, turn_of, followed_from}
+use Rattle.st_check_meaning.proofs.TurnLemmas.{following_is_by_turns}
+use Rattle.st_thread_meaning.specs.Right.{words_of}
 use Rattle.st_eval.specs.declared.evals.Eval.{Eval}
 use Rattle.st_eval.specs.Evaluations.{AsksFor, turn_by}
-use Rattle.st_schedule.specs.States.{has_read}
-use Rattle.st_schedule.specs.Agents.{cells_of}
+use Rattle.st_run_meaning.specs.States.{has_read}
+use Rattle.st_run_meaning.specs.Agents.{cells_of}
 use Rattle.st_sched.specs.declared.checks.Awaits.{Awaits}
 use Rattle.st_sched.specs.declared.checks.Awaits.TheVariants.{Cell, Retire}
 use Rattle.st_sched.specs.Checks.{AwaitsTurn}

@@ -7,18 +7,18 @@ use Rattle.st_events.specs.declared.limits.Sizes.{Sizes}
 use Rattle.st_events.specs.declared.verdicts.Verdict.{Verdict}
 use Rattle.st_events.specs.Sizes.{AreWithinLimits}
 use Rattle.st_events.specs.Terms.{ShapeLists, World, Launched, RanLists, is_among, world_after, launch_of, active_checks, epoch_of, kept_rows}
-use Rattle.st_program.specs.Terms.{Program}
-use Rattle.st_program.specs.WellFormed.{IsWellFormed}
-use Rattle.st_threads.specs.Threads.{Turn}
+use Rattle.st_resolved.specs.Terms.{Program}
+use Rattle.st_resolved.specs.WellFormed.{IsWellFormed}
+use Rattle.st_thread_meaning.specs.Threads.{Turn}
 use Rattle.st_mutator.specs.Mutators.{turn_of_want}
-use Rattle.st_schedule.specs.States.{State}
-use Rattle.st_schedule.specs.Agents.{request_of, has_finished, next_agent}
-use Rattle.st_schedule.specs.Runs.{end_of, verdict_of, ran_of}
-use Rattle.st_schedule.specs.SoundStates.{IsSoundState}
-use Rattle.st_schedule.specs.Steps.{retires}
-use Rattle.st_schedule.proofs.AgentLemmas.{none_is_ready}
-use Rattle.st_schedule.proofs.RetiresLemmas.{with_retired, world_after_retires, all_removed}
-use Rattle.st_schedule.proofs.RoomLemmas.{sound_state_has_room}
+use Rattle.st_run_meaning.specs.States.{State}
+use Rattle.st_run_meaning.specs.Agents.{request_of, has_finished, next_agent}
+use Rattle.st_run_meaning.specs.Runs.{end_of, verdict_of, ran_of}
+use Rattle.st_run_meaning.specs.SoundStates.{IsSoundState}
+use Rattle.st_run_meaning.specs.Steps.{retires}
+use Rattle.st_run_meaning.proofs.AgentLemmas.{none_is_ready}
+use Rattle.st_run_meaning.proofs.RetiresLemmas.{with_retired, world_after_retires, all_removed}
+use Rattle.st_run_meaning.proofs.RoomLemmas.{sound_state_has_room}
 use Rattle.st_sched.specs.declared.checks.ActiveCheck.{ActiveCheck}
 use Rattle.st_sched.specs.declared.running.Running.{Running}
 use Rattle.st_sched.specs.declared.seats.Seat.{Seat}

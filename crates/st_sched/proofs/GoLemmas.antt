@@ -8,18 +8,18 @@ use Rattle.std.proofs.lemmas.List.Elements.{recursion_from_All}
 use Rattle.std.proofs.lemmas.List.Sums.{sum_by-cons}
 use Rattle.st_events.specs.declared.limits.Sizes.{Sizes}
 use Rattle.st_events.specs.Terms.{ShapeLists, world_after, Launched, launch_of}
-use Rattle.st_program.specs.Terms.{Program}
-use Rattle.st_meaning.specs.Plain.{Cell as CellRead, Followed}
+use Rattle.st_resolved.specs.Terms.{Program}
+use Rattle.st_check_meaning.specs.Plain.{Cell as CellRead, Followed}
 use Rattle.st_eval.specs.declared.evals.Eval.{Eval}
 use Rattle.st_snap.specs.Snapshots.{Snapshots}
-use Rattle.st_schedule.specs.States.{Progress, State, has_read, abandoned_at}
-use Rattle.st_schedule.specs.Agents.{request_of, can_turn, can_launch, finished_checks, cells_of, Agent, mutator, check, number_after, next_agent}
-use Rattle.st_schedule.specs.Runs.{by_turn, reads_left, all_reads_left}
-use Rattle.st_schedule.specs.Steps.{event_of, retires, retired_for, turn_events, turn_of}
-use Rattle.st_threads.specs.Threads.{Turn, asks_for, has_ended}
-use Rattle.st_schedule.proofs.AgentLemmas.{chosen_is_ready}
-use Rattle.st_schedule.proofs.EndLemmas.{reads_fall}
-use Rattle.st_schedule.proofs.SoundLemmas.{turn_keeps_sound}
+use Rattle.st_run_meaning.specs.States.{Progress, State, has_read, abandoned_at}
+use Rattle.st_run_meaning.specs.Agents.{request_of, can_turn, can_launch, finished_checks, cells_of, Agent, mutator, check, number_after, next_agent}
+use Rattle.st_run_meaning.specs.Runs.{by_turn, reads_left, all_reads_left}
+use Rattle.st_run_meaning.specs.Steps.{event_of, retires, retired_for, turn_events, turn_of}
+use Rattle.st_thread_meaning.specs.Threads.{Turn, asks_for, has_ended}
+use Rattle.st_run_meaning.proofs.AgentLemmas.{chosen_is_ready}
+use Rattle.st_run_meaning.proofs.EndLemmas.{reads_fall}
+use Rattle.st_run_meaning.proofs.SoundLemmas.{turn_keeps_sound}
 use Rattle.st_sched.specs.declared.agents.Agent as memory
 use Rattle.st_sched.specs.declared.checks.ActiveCheck.{ActiveCheck}
 use Rattle.st_sched.specs.declared.checks.Awaits.{Awaits}

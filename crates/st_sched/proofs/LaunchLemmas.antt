@@ -17,15 +17,15 @@ use Rattle.st_events.proofs.LegalEvents.{legal_launch}
 use Rattle.st_events.proofs.LegalLemmas.{each_is_legal, prefix_is_legal}
 use Rattle.st_events.proofs.SoundLemmas.{legal_is_sound}
 use Rattle.st_events.proofs.WorldLemmas.{world_after_one_more, at_same}
-use Rattle.st_program.specs.Terms.{Program}
-use Rattle.st_program.specs.WellFormed.{IsWellFormed}
-use Rattle.st_meaning.specs.Plain.{check_course}
-use Rattle.st_meaning.specs.Turns.{turn_of}
-use Rattle.st_threads.specs.Right.{words_of}
+use Rattle.st_resolved.specs.Terms.{Program}
+use Rattle.st_resolved.specs.WellFormed.{IsWellFormed}
+use Rattle.st_check_meaning.specs.Plain.{check_course}
+use Rattle.st_check_meaning.specs.Turns.{turn_of}
+use Rattle.st_thread_meaning.specs.Right.{words_of}
 use Rattle.st_eval.specs.Evaluations.{IsMadeFor, budget}
 use Rattle.st_snap.specs.declared.lanes.Lane.{Lane}
 use Rattle.st_snap.specs.Snapshots.{IsLaneOf}
-use Rattle.st_schedule.specs.States.{State, has_read}
+use Rattle.st_run_meaning.specs.States.{State, has_read}
 use Rattle.st_sched.specs.declared.checks.ActiveCheck.{ActiveCheck}
 use Rattle.st_sched.specs.Checks.{AwaitsTurn}
 use Rattle.st_sched.specs.Choosing.{numbers}

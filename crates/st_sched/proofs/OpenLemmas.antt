@@ -5,11 +5,11 @@ use Rattle.std.proofs.lemmas.List.Elements.{All-nil}
 use Rattle.st_events.specs.declared.limits.Sizes.{Sizes}
 use Rattle.st_events.specs.Sizes.{AreWithinLimits}
 use Rattle.st_events.specs.Terms.{ShapeLists}
-use Rattle.st_program.specs.Terms.{Program}
-use Rattle.st_program.specs.WellFormed.{IsWellFormed}
+use Rattle.st_resolved.specs.Terms.{Program}
+use Rattle.st_resolved.specs.WellFormed.{IsWellFormed}
 use Rattle.st_snap.specs.Snapshots.{new_heap, event_room}
-use Rattle.st_schedule.specs.States.{first_state}
-use Rattle.st_schedule.proofs.SoundLemmas.{first_is_sound}
+use Rattle.st_run_meaning.specs.States.{first_state}
+use Rattle.st_run_meaning.proofs.SoundLemmas.{first_is_sound}
 use Rattle.st_sched.specs.declared.running.Running.{Running}
 use Rattle.st_sched.specs.declared.seats.Seat.{Seat}
 use Rattle.st_sched.specs.Seats.{HasReplies}

@@ -11,18 +11,18 @@ use Rattle.st_events.specs.Sizes.{AreWithinLimits}
 use Rattle.st_events.specs.Sound.{IsRising}
 use Rattle.st_events.specs.Terms.{ShapeLists, Launched, IsLegal, is_among, is_lost, lost_pairs, word_at, launch_of, active_checks}
 use Rattle.st_events.proofs.WorldLemmas.{at_same, at_other}
-use Rattle.st_program.specs.Terms.{Program}
-use Rattle.st_program.specs.WellFormed.{IsWellFormed}
-use Rattle.st_meaning.specs.Plain.{Cell as CellRead, Followed, word_found}
-use Rattle.st_meaning.specs.Turns.{followed_from}
+use Rattle.st_resolved.specs.Terms.{Program}
+use Rattle.st_resolved.specs.WellFormed.{IsWellFormed}
+use Rattle.st_check_meaning.specs.Plain.{Cell as CellRead, Followed, word_found}
+use Rattle.st_check_meaning.specs.Turns.{followed_from}
 use Rattle.st_eval.specs.declared.evals.Eval.{Eval}
 use Rattle.st_eval.specs.Evaluations.{IsMadeFor, budget, turn_by}
 use Rattle.st_snap.specs.declared.lanes.Lane.{Lane}
 use Rattle.st_snap.specs.Snapshots.{IsLaneOf, HadCell, word_at_launch, word_then, is_lost_for}
-use Rattle.st_schedule.specs.States.{Progress, State, has_read, abandoned_at}
-use Rattle.st_schedule.specs.Agents.{cells_of, cell_after, cell_asked, check}
-use Rattle.st_schedule.specs.Runs.{verdict_of}
-use Rattle.st_schedule.specs.Steps.{one_more, progress_after, turn_of}
+use Rattle.st_run_meaning.specs.States.{Progress, State, has_read, abandoned_at}
+use Rattle.st_run_meaning.specs.Agents.{cells_of, cell_after, cell_asked, check}
+use Rattle.st_run_meaning.specs.Runs.{verdict_of}
+use Rattle.st_run_meaning.specs.Steps.{one_more, progress_after, turn_of}
 use Rattle.st_sched.specs.declared.checks.ActiveCheck.{ActiveCheck}
 use Rattle.st_sched.specs.declared.checks.Awaits.{Awaits}
 use Rattle.st_sched.specs.declared.checks.Awaits.TheVariants.{Cell, Retire}

@@ -13,11 +13,11 @@ use Rattle.st_events.specs.Sound.{IsRising, AreActive}
 use Rattle.st_events.specs.Terms.{ShapeLists, World, Launched, is_among, without, world_after, launch_of, active_checks, epoch_of}
 use Rattle.st_events.proofs.AmongLemmas.{or_first, or_second, same_number, among_without, without_is_among}
 use Rattle.st_events.proofs.WorldLemmas.{world_after_one_more}
-use Rattle.st_program.specs.Terms.{Program}
+use Rattle.st_resolved.specs.Terms.{Program}
 use Rattle.st_snap.specs.declared.lanes.Lane.{Lane}
 use Rattle.st_snap.specs.Snapshots.{IsLaneOf}
-use Rattle.st_schedule.specs.States.{State}
-use Rattle.st_schedule.specs.Runs.{verdict_of}
+use Rattle.st_run_meaning.specs.States.{State}
+use Rattle.st_run_meaning.specs.Runs.{verdict_of}
 use Rattle.st_sched.specs.declared.checks.ActiveCheck.{ActiveCheck}
 use Rattle.st_sched.specs.declared.checks.Awaits.{Awaits}
 use Rattle.st_sched.specs.declared.checks.Awaits.TheVariants.{Retire as Retired}

@@ -11,13 +11,13 @@ use Rattle.st_events.specs.declared.verdicts.Verdict.{Verdict}
 use Rattle.st_events.specs.Sound.{IsSoundWorld}
 use Rattle.st_events.specs.Terms.{ShapeLists, without, world_after, active_checks}
 use Rattle.st_events.proofs.SoundLemmas.{legal_is_sound}
-use Rattle.st_program.specs.Terms.{Program}
+use Rattle.st_resolved.specs.Terms.{Program}
 use Rattle.st_eval.specs.declared.evals.Eval.{Eval}
 use Rattle.st_snap.specs.declared.lanes.Lane.{Lane}
 use Rattle.st_snap.specs.Snapshots.{Snapshots, IsLaneOf, IsLegalHeap, with_event}
-use Rattle.st_schedule.specs.States.{State}
-use Rattle.st_schedule.specs.Steps.{retires}
-use Rattle.st_schedule.proofs.RetiresLemmas.{without_is_less}
+use Rattle.st_run_meaning.specs.States.{State}
+use Rattle.st_run_meaning.specs.Steps.{retires}
+use Rattle.st_run_meaning.proofs.RetiresLemmas.{without_is_less}
 use Rattle.st_sched.specs.declared.checks.ActiveCheck.{ActiveCheck}
 use Rattle.st_sched.specs.declared.running.Running.{Running}
 use Rattle.st_sched.specs.Standing.{IsInMemory, AreChecks, AreVerdicts, IsIdleEval, HasVerdictAt, finished_in, heap_of_journal, number_at}

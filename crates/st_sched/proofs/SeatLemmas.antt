@@ -8,20 +8,20 @@ use Rattle.st_events.specs.Sizes.{AreWithinLimits}
 use Rattle.st_events.specs.Sound.{IsSoundWorld}
 use Rattle.st_events.specs.Terms.{ShapeLists, Heap, Object, word_of, word_at, heap_after, world_after, own_events}
 use Rattle.st_events.proofs.SoundLemmas.{legal_is_sound}
-use Rattle.st_program.specs.Terms.{Program}
-use Rattle.st_program.specs.WellFormed.{IsWellFormed}
-use Rattle.st_threads.specs.Deeds.{Request, make, load, store, cas, launch}
-use Rattle.st_threads.specs.Laws.{replies_of}
-use Rattle.st_threads.specs.Threads.{Turn, asks_for, has_ended, reply_of}
-use Rattle.st_threads.specs.Typed.{IsRightTurn}
-use Rattle.st_threads.proofs.TypedJournals.{threads_ask_legally}
+use Rattle.st_resolved.specs.Terms.{Program}
+use Rattle.st_resolved.specs.WellFormed.{IsWellFormed}
+use Rattle.st_thread_meaning.specs.Deeds.{Request, make, load, store, cas, launch}
+use Rattle.st_thread_meaning.specs.Laws.{replies_of}
+use Rattle.st_thread_meaning.specs.Threads.{Turn, asks_for, has_ended, reply_of}
+use Rattle.st_thread_meaning.specs.Typed.{IsRightTurn}
+use Rattle.st_thread_meaning.proofs.TypedJournals.{threads_ask_legally}
 use Rattle.st_eval.specs.Laws.{HasSmallNumbers}
 use Rattle.st_mutator.specs.Mutators.{narrow, narrowed, turn_of_want}
-use Rattle.st_schedule.specs.States.{State}
-use Rattle.st_schedule.specs.Agents.{request_of, mutator}
-use Rattle.st_schedule.specs.SoundStates.{IsSoundState}
-use Rattle.st_schedule.specs.Steps.{event_of, turn_of}
-use Rattle.st_schedule.proofs.OwnLemmas.{own_after_turn, others_after_turn}
+use Rattle.st_run_meaning.specs.States.{State}
+use Rattle.st_run_meaning.specs.Agents.{request_of, mutator}
+use Rattle.st_run_meaning.specs.SoundStates.{IsSoundState}
+use Rattle.st_run_meaning.specs.Steps.{event_of, turn_of}
+use Rattle.st_run_meaning.proofs.OwnLemmas.{own_after_turn, others_after_turn}
 use Rattle.st_sched.specs.declared.seats.Seat.{Seat}
 use Rattle.st_sched.specs.Seats.{HasReplies}
 use Rattle.st_sched.specs.UnderWay.{AreSeats}

@@ -14,23 +14,23 @@ use Rattle.st_events.proofs.ExtendsLemmas.{launch_stays}
 use Rattle.st_events.proofs.LegalLemmas.{each_is_legal}
 use Rattle.st_events.proofs.SoundLemmas.{legal_is_sound}
 use Rattle.st_events.proofs.WorldLemmas.{world_after_one_more}
-use Rattle.st_program.specs.Terms.{Program}
-use Rattle.st_threads.specs.Deeds.{Request, make, load, store, cas, launch}
-use Rattle.st_threads.specs.Laws.{replies_of}
-use Rattle.st_threads.specs.Right.{has_cell_of}
-use Rattle.st_threads.specs.Threads.{Turn, asks_for, reply_of}
+use Rattle.st_resolved.specs.Terms.{Program}
+use Rattle.st_thread_meaning.specs.Deeds.{Request, make, load, store, cas, launch}
+use Rattle.st_thread_meaning.specs.Laws.{replies_of}
+use Rattle.st_thread_meaning.specs.Right.{has_cell_of}
+use Rattle.st_thread_meaning.specs.Threads.{Turn, asks_for, reply_of}
 use Rattle.st_mutator.specs.Mutators.{turn_of_want}
 use Rattle.st_mutator.specs.declared.wants.Want.{Want}
 use Rattle.st_mutator.specs.declared.wants.Want.TheVariants as want
 use Rattle.st_snap.specs.Snapshots.{Snapshots, HasSpare, world_of, lanes_now, with_event, event_room}
-use Rattle.st_schedule.specs.States.{Progress, State, has_read, abandoned_at}
-use Rattle.st_schedule.specs.Agents.{request_of, cells_of, can_turn, can_launch, has_finished, finished_checks, Agent, mutator, number_after}
-use Rattle.st_schedule.specs.SoundStates.{IsSoundProgress, IsSoundState}
-use Rattle.st_schedule.specs.Steps.{event_of, retires, retired_for, turn_events, turn_of}
-use Rattle.st_schedule.proofs.AgentLemmas.{chosen_is_ready}
-use Rattle.st_schedule.proofs.RetiresLemmas.{world_after_retires}
-use Rattle.st_schedule.proofs.RoomLemmas.{sound_state_has_room}
-use Rattle.st_schedule.proofs.SoundLemmas.{turn_keeps_sound}
+use Rattle.st_run_meaning.specs.States.{Progress, State, has_read, abandoned_at}
+use Rattle.st_run_meaning.specs.Agents.{request_of, cells_of, can_turn, can_launch, has_finished, finished_checks, Agent, mutator, number_after}
+use Rattle.st_run_meaning.specs.SoundStates.{IsSoundProgress, IsSoundState}
+use Rattle.st_run_meaning.specs.Steps.{event_of, retires, retired_for, turn_events, turn_of}
+use Rattle.st_run_meaning.proofs.AgentLemmas.{chosen_is_ready}
+use Rattle.st_run_meaning.proofs.RetiresLemmas.{world_after_retires}
+use Rattle.st_run_meaning.proofs.RoomLemmas.{sound_state_has_room}
+use Rattle.st_run_meaning.proofs.SoundLemmas.{turn_keeps_sound}
 use Rattle.st_sched.specs.declared.running.Running.{Running}
 use Rattle.st_sched.specs.declared.seats.Seat.{Seat}
 use Rattle.st_sched.specs.Answering.{event_of_want, reply_to, IsPlainWant, CanAnswer}

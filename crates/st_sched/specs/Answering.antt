@@ -3,9 +3,9 @@ use Rattle.std.specs.Prelude.{ℕ}
 use Rattle.st_events.specs.declared.events.Event.{Event}
 use Rattle.st_events.specs.declared.events.Event.TheVariants.{Retire}
 use Rattle.st_events.specs.Legal.{IsLegalNext}
-use Rattle.st_threads.specs.Deeds.{make, load, store, cas, launch}
-use Rattle.st_threads.specs.Threads.{reply_of}
-use Rattle.st_schedule.specs.Steps.{event_of}
+use Rattle.st_thread_meaning.specs.Deeds.{make, load, store, cas, launch}
+use Rattle.st_thread_meaning.specs.Threads.{reply_of}
+use Rattle.st_run_meaning.specs.Steps.{event_of}
 use Rattle.st_mutator.specs.declared.wants.Want.{Want}
 use Rattle.st_mutator.specs.declared.wants.Want.TheVariants as want
 use Rattle.st_snap.specs.Snapshots.{Snapshots, world_of}

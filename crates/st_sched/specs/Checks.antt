@@ -1,8 +1,8 @@
 -- An active check in memory: what it does next, as a turn of its evaluation.
 use Rattle.std.specs.Prelude.{◌≡◌, Bool, true, false}
 use Rattle.st_events.specs.declared.verdicts.Verdict.TheVariants.{Plain as Value, Abandoned}
-use Rattle.st_program.specs.Terms.{Program}
-use Rattle.st_meaning.specs.Turns.{Turn, is_over as has_value}
+use Rattle.st_resolved.specs.Terms.{Program}
+use Rattle.st_check_meaning.specs.Turns.{Turn, is_over as has_value}
 use Rattle.st_eval.specs.declared.evals.Eval.{Eval}
 use Rattle.st_eval.specs.Evaluations.{AsksFor}
 use Rattle.st_sched.specs.declared.checks.Awaits.{Awaits}

@@ -1,9 +1,9 @@
 -- Who can take a turn, as the run in memory sees it.
 use Rattle.std.specs.Prelude.{ℕ, ◌+◌, Bool, cond, List, [], ◌∷◌, ◌++◌, map, ◌||◌, ◌/◌, ◌%◌, ◌^◌, length, nat_lt, get_or, slice_get, Option}
-use Rattle.st_schedule.specs.declared.limits.TheConstants.{LOW_BITS}
+use Rattle.st_run_meaning.specs.declared.limits.TheConstants.{LOW_BITS}
 use Rattle.std.specs.List.{list_any}
-use Rattle.st_schedule.specs.Agents.{can_turn, mutator, check}
-use Rattle.st_schedule.specs.Agents as model
+use Rattle.st_run_meaning.specs.Agents.{can_turn, mutator, check}
+use Rattle.st_run_meaning.specs.Agents as model
 use Rattle.st_mutator.specs.Mutators.{turn_of_want}
 use Rattle.st_sched.specs.declared.agents.Agent.{Agent}
 use Rattle.st_sched.specs.declared.agents.Agent.TheVariants.{Mutator, Check}

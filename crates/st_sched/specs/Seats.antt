@@ -1,8 +1,8 @@
 -- A thread in memory: it has had these replies, and what it asks for is what its code asks for after them.
 use Rattle.std.specs.Prelude.{◌≡◌, ℕ, List, ◌∷◌}
 use Rattle.st_events.specs.declared.limits.Sizes.{Sizes}
-use Rattle.st_program.specs.Terms.{Program}
-use Rattle.st_threads.specs.Threads.{next_request}
+use Rattle.st_resolved.specs.Terms.{Program}
+use Rattle.st_thread_meaning.specs.Threads.{next_request}
 use Rattle.st_mutator.specs.Mutators.{HasHad, narrowed, turn_of_want}
 use Rattle.st_sched.specs.declared.seats.Seat.{Seat}
 

@@ -5,15 +5,15 @@ use Rattle.st_events.specs.declared.events.Event.{Event}
 use Rattle.st_events.specs.declared.limits.Sizes.{Sizes}
 use Rattle.st_events.specs.declared.verdicts.Verdict.{Verdict}
 use Rattle.st_events.specs.Terms.{ShapeLists, Heap, Launched, launch_of, active_checks, epoch_of, is_among}
-use Rattle.st_program.specs.Terms.{Program}
-use Rattle.st_meaning.specs.Plain.{Followed, after_reading, word_found}
-use Rattle.st_meaning.specs.Turns.{followed_from}
+use Rattle.st_resolved.specs.Terms.{Program}
+use Rattle.st_check_meaning.specs.Plain.{Followed, after_reading, word_found}
+use Rattle.st_check_meaning.specs.Turns.{followed_from}
 use Rattle.st_eval.specs.declared.evals.Eval.{Eval}
 use Rattle.st_eval.specs.Evaluations.{IsMadeFor, budget, turn_by}
 use Rattle.st_snap.specs.Snapshots.{Snapshots, IsLaneOf}
-use Rattle.st_schedule.specs.States.{Progress, has_read, abandoned_at, State}
-use Rattle.st_schedule.specs.Agents.{cells_of, cell_after}
-use Rattle.st_schedule.specs.Runs.{value_of, verdict_of}
+use Rattle.st_run_meaning.specs.States.{Progress, has_read, abandoned_at, State}
+use Rattle.st_run_meaning.specs.Agents.{cells_of, cell_after}
+use Rattle.st_run_meaning.specs.Runs.{value_of, verdict_of}
 use Rattle.st_sched.specs.declared.checks.ActiveCheck.{ActiveCheck}
 use Rattle.st_sched.specs.declared.checks.Awaits.{Awaits}
 use Rattle.st_sched.specs.declared.checks.Awaits.TheVariants.{Cell, Retire}

@@ -7,16 +7,16 @@ use Rattle.st_events.specs.declared.events.Args.{Args}
 use Rattle.st_events.specs.declared.limits.Sizes.{Sizes}
 use Rattle.st_events.specs.Sizes.{AreWithinLimits}
 use Rattle.st_events.specs.Terms.{ShapeLists, IsLegal, active_checks, epoch_of, own_events}
-use Rattle.st_program.specs.Terms.{Program}
-use Rattle.st_program.specs.WellFormed.{IsWellFormed}
-use Rattle.st_threads.specs.Laws.{replies_of}
+use Rattle.st_resolved.specs.Terms.{Program}
+use Rattle.st_resolved.specs.WellFormed.{IsWellFormed}
+use Rattle.st_thread_meaning.specs.Laws.{replies_of}
 use Rattle.st_mutator.specs.declared.wants.Want.{Want}
 use Rattle.st_snap.specs.Snapshots.{event_room}
-use Rattle.st_schedule.specs.States.{State, has_read}
-use Rattle.st_schedule.specs.Agents.{Agent, next_agent}
-use Rattle.st_schedule.specs.Runs.{ComesTo}
-use Rattle.st_schedule.specs.SoundStates.{IsSoundState}
-use Rattle.st_schedule.specs.Steps.{retires}
+use Rattle.st_run_meaning.specs.States.{State, has_read}
+use Rattle.st_run_meaning.specs.Agents.{Agent, next_agent}
+use Rattle.st_run_meaning.specs.Runs.{ComesTo}
+use Rattle.st_run_meaning.specs.SoundStates.{IsSoundState}
+use Rattle.st_run_meaning.specs.Steps.{retires}
 use Rattle.st_sched.specs.declared.running.Running.{Running}
 use Rattle.st_sched.specs.declared.seats.Seat.{Seat}
 use Rattle.st_sched.specs.Seats.{HasReplies}

@@ -1,9 +1,9 @@
 //! An active check: it reads one cell after another, until it has a verdict.
 ghost use Rattle.std.specs.Prelude.{◌≡◌, ◌≤◌, ℕ, true, false, Some};
-ghost use Rattle.st_program.specs.Terms.{Program};
-ghost use Rattle.st_program.specs.Views.{program_of};
-ghost use Rattle.st_meaning.specs.Plain.{check_course};
-ghost use Rattle.st_meaning.specs.Turns.{Turn, turn_of};
+ghost use Rattle.st_resolved.specs.Terms.{Program};
+ghost use Rattle.st_resolved.specs.Views.{program_of};
+ghost use Rattle.st_check_meaning.specs.Plain.{check_course};
+ghost use Rattle.st_check_meaning.specs.Turns.{Turn, turn_of};
 ghost use Rattle.st_eval.specs.Evaluations.{words_of, IsMadeFor, budget, turn_by, IsTurn};
 ghost use Rattle.st_snap.specs.Snapshots.{IsLaneOf, HadCell, word_at_launch, is_lost_for};
 ghost use Rattle.st_eval.specs.declared.evals.Eval.{Eval};
@@ -11,7 +11,7 @@ ghost use Rattle.st_sched.specs.Checks.{is_over, AwaitsTurn};
 
 use st_eval::{Ask, Eval};
 use st_events::{Args, MOST_ARGS, Verdict};
-use st_program::Resolved;
+use st_resolved::Resolved;
 use st_snap::{Lane, SnapHeap};
 
 /// What an active check does next.
@@ -24,7 +24,7 @@ pub(crate) enum Awaits {
 }
 
 /// An active check with its lane and its evaluator.
-#[derive(Debug, Drop)]
+#[derive(Drop)]
 pub(crate) struct ActiveCheck {
     pub lane: Lane,
     pub eval: Eval,

@@ -3,9 +3,9 @@
 ghost use Rattle.std.specs.Prelude.{◌≡◌, ◌+◌, ◌≤◌, ◌++◌, map, length, vec_len, vec_capacity};
 ghost use Rattle.st_events.specs.declared.limits.Sizes.{Sizes};
 ghost use Rattle.st_events.specs.Shape.{ShapeLists};
-ghost use Rattle.st_program.specs.Terms.{Program};
-ghost use Rattle.st_schedule.specs.Runs.{ran_of, end_of as end_of_turn};
-ghost use Rattle.st_schedule.specs.States.{State};
+ghost use Rattle.st_resolved.specs.Terms.{Program};
+ghost use Rattle.st_run_meaning.specs.Runs.{ran_of, end_of as end_of_turn};
+ghost use Rattle.st_run_meaning.specs.States.{State};
 ghost use Rattle.st_mutator.specs.Mutators.{turn_of_want};
 
 use crate::running::Running;

@@ -3,9 +3,9 @@
 ghost use Rattle.std.specs.Prelude.{◌≡◌, ◌+◌, ◌*◌, ◌/◌, ◌≤◌, [], length, IfOk, vec_capacity};
 ghost use Rattle.std.specs.List.{All};
 ghost use Rattle.st_events.specs.Sizes.{AreWithinLimits};
-ghost use Rattle.st_program.specs.Views.{program_of};
-ghost use Rattle.st_program.specs.WellFormed.{IsWellFormed};
-ghost use Rattle.st_schedule.specs.States.{first_state};
+ghost use Rattle.st_resolved.specs.Views.{program_of};
+ghost use Rattle.st_resolved.specs.WellFormed.{IsWellFormed};
+ghost use Rattle.st_run_meaning.specs.States.{first_state};
 ghost use Rattle.st_mutator.specs.Mutators.{HasFewLocals};
 ghost use Rattle.st_snap.specs.Snapshots.{event_room};
 ghost use Rattle.st_sched.specs.Standing.{IsIdleEval};
@@ -15,7 +15,7 @@ use crate::running::Running;
 use crate::seats::Seat;
 use st_eval::Eval;
 use st_events::{NoMemory, Shape, Sizes};
-use st_program::Resolved;
+use st_resolved::Resolved;
 use st_snap::SnapHeap;
 use std::alloc::Global;
 

@@ -1,12 +1,12 @@
 //! Checks are launched, and retired.
 ghost use Rattle.std.specs.Prelude.{◌≡◌, ◌≤◌, ◌<◌, ◌+◌, [], ◌∷◌, ◌++◌, take, drop, get_or, vec_len, vec_capacity};
-ghost use Rattle.st_program.specs.Terms.{Program};
-ghost use Rattle.st_program.specs.Views.{program_of};
+ghost use Rattle.st_resolved.specs.Terms.{Program};
+ghost use Rattle.st_resolved.specs.Views.{program_of};
 
 use crate::checks::{ActiveCheck, Awaits};
 use crate::running::Running;
 use st_events::{Args, NoLane, Plain, Verdict};
-use st_program::Resolved;
+use st_resolved::Resolved;
 
 /// What stands in the place of a verdict until its check is retired.
 const NO_VERDICT_YET: Verdict = Verdict::Plain(Plain::Fails);

@@ -8,7 +8,7 @@ use st_events::{End, Verdict};
 use st_snap::SnapHeap;
 
 /// Where a run stands. All its memory is taken at the opening.
-#[derive(Debug, Drop)]
+#[derive(Drop)]
 pub(crate) struct Running {
     pub heap: SnapHeap,
     /// By number of the thread.

@@ -2,14 +2,14 @@
 
 ghost use Rattle.std.specs.Prelude.{◌≡◌, length, IfOk};
 ghost use Rattle.st_events.specs.Sizes.{AreWithinLimits};
-ghost use Rattle.st_program.specs.Views.{program_of};
-ghost use Rattle.st_program.specs.WellFormed.{IsWellFormed};
-ghost use Rattle.st_schedule.specs.Runs.{scheduled_run};
-ghost use Rattle.st_threads.specs.Right.{IsRightRun};
+ghost use Rattle.st_resolved.specs.Views.{program_of};
+ghost use Rattle.st_resolved.specs.WellFormed.{IsWellFormed};
+ghost use Rattle.st_run_meaning.specs.Runs.{scheduled_run};
+ghost use Rattle.st_thread_meaning.specs.Right.{IsRightRun};
 
 use crate::running::Running;
 use st_events::{NoMemory, Ran, Shape, Sizes};
-use st_program::Resolved;
+use st_resolved::Resolved;
 use std::alloc::Global;
 
 /// Runs the program, whose threads and checks take turns as the seed says, to its end.

@@ -1,18 +1,18 @@
 //! A thread of the program at its place in a run.
 ghost use Rattle.std.specs.Prelude.{◌≡◌, ℕ, List, [], ◌∷◌, ◌++◌, IfOk};
 ghost use Rattle.st_events.specs.declared.limits.Sizes.{Sizes};
-ghost use Rattle.st_program.specs.Terms.{Program};
-ghost use Rattle.st_program.specs.Views.{program_of};
-ghost use Rattle.st_schedule.specs.Agents.{can_turn as turn_is_possible};
+ghost use Rattle.st_resolved.specs.Terms.{Program};
+ghost use Rattle.st_resolved.specs.Views.{program_of};
+ghost use Rattle.st_run_meaning.specs.Agents.{can_turn as turn_is_possible};
 ghost use Rattle.st_mutator.specs.Mutators.{HasFewLocals, turn_of_want};
 
 use st_events::{NoMemory, Sizes};
 use st_mutator::{Mutator, Want};
-use st_program::Resolved;
+use st_resolved::Resolved;
 use std::alloc::Global;
 
 /// A thread, and what it asks for next.
-#[derive(Debug, Drop)]
+#[derive(Drop)]
 pub(crate) struct Seat {
     pub thread: Mutator,
     pub want: Want,

@@ -2,11 +2,11 @@
 ghost use Rattle.std.specs.Prelude.{◌≡◌, ◌+◌, ◌%◌, ◌/◌, ◌^◌, ◌<◌, ◌≤◌, ◌||◌, ℕ, true, false, not, length, vec_len, vec_capacity};
 ghost use Rattle.st_events.specs.declared.limits.Sizes.{Sizes};
 ghost use Rattle.st_events.specs.Shape.{ShapeLists};
-ghost use Rattle.st_program.specs.Terms.{Program};
-ghost use Rattle.st_program.specs.Views.{program_of};
-ghost use Rattle.st_schedule.specs.Agents.{mutator, check, number_after as next_number};
-ghost use Rattle.st_schedule.specs.States.{State};
-ghost use Rattle.st_schedule.specs.Steps.{turn_of};
+ghost use Rattle.st_resolved.specs.Terms.{Program};
+ghost use Rattle.st_resolved.specs.Views.{program_of};
+ghost use Rattle.st_run_meaning.specs.Agents.{mutator, check, number_after as next_number};
+ghost use Rattle.st_run_meaning.specs.States.{State};
+ghost use Rattle.st_run_meaning.specs.Steps.{turn_of};
 ghost use Rattle.st_sched.specs.Choosing.{some_over};
 
 use crate::agents::{Agent, add_checks, add_mutators};
@@ -15,8 +15,8 @@ use crate::checks::{ActiveCheck, Awaits};
 use crate::running::Running;
 use st_events::Args;
 use st_mutator::Want;
-use st_program::Resolved;
-use st_schedule::{INCREMENT, LOW_BITS, MULTIPLIER};
+use st_resolved::Resolved;
+use st_run_meaning::{INCREMENT, LOW_BITS, MULTIPLIER};
 
 impl Running {
     ghost use Rattle.st_sched.specs.Answering.{IsPlainWant};

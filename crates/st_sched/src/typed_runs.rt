@@ -1,9 +1,9 @@
 //! A scheduled run of a typed program.
 ghost use Rattle.std.specs.Prelude.{◌≡◌, length, IfOk};
 ghost use Rattle.st_events.specs.Sizes.{AreWithinLimits};
-ghost use Rattle.st_program.specs.Views.{program_of};
-ghost use Rattle.st_schedule.specs.Runs.{scheduled_run};
-ghost use Rattle.st_threads.specs.Right.{IsRightRun};
+ghost use Rattle.st_resolved.specs.Views.{program_of};
+ghost use Rattle.st_run_meaning.specs.Runs.{scheduled_run};
+ghost use Rattle.st_thread_meaning.specs.Right.{IsRightRun};
 
 use crate::runs::run_resolved;
 use st_events::{NoMemory, Ran, Sizes};

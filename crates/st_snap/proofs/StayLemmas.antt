@@ -1,5 +1,5 @@
 -- A cell stays, and so does what a check finds of the heap at its launch
-use Rattle.std.proofs.Common.{◌≡◌, ℕ, true, false, inl, inr, [], ◌∷◌, slice_get, slice_set, Option, Some, None, refl, sym, ◌∙◌, subst, arith, IsSome}
+use Rattle.std.proofs.Common.{◌≡◌, ℕ, true, false, inl, inr, [], ◌∷◌, slice_get, slice_set, Option, Some, None, refl, sym, subst, arith, IsSome}
 use Rattle.std.specs.Option.{option_map}
 use Rattle.std.proofs.lemmas.List.{length-set}
 use Rattle.std.proofs.lemmas.Option.{slice_get_within, slice_get-get_or}
@@ -7,9 +7,10 @@ use Rattle.std.proofs.lemmas.Bool.Decides.{eqb_tells}
 use Rattle.st_snap.specs.Terms.{Event, New, Load, Store, Cas, Launch, Retire, Sizes, ShapeLists, IsWithinLimits}
 use Rattle.st_snap.specs.Terms.{Heap, Object, word_of, word_at, with_object, with_word, set_word, fresh, World, Launched, next, IsLegalNext}
 use Rattle.st_events.specs.Sound.{IsSoundWorld}
-use Rattle.st_events.proofs.WorldLemmas.{world_after_one_more, at_other}
+use Rattle.st_events.proofs.WorldLemmas.{world_after_one_more}
+use Rattle.st_events.proofs.ExtendsLemmas.{next_keeps_launch}
 use Rattle.st_events.proofs.LegalLemmas.{prefix_is_legal, rest_is_legal}
-use Rattle.st_events.proofs.LegalEvents.{legal_new, legal_launch}
+use Rattle.st_events.proofs.LegalEvents.{legal_new}
 use Rattle.st_events.proofs.SoundHeap.{object_put_elsewhere, word_set_here, word_set_elsewhere, next_is_absent}
 use Rattle.st_events.proofs.SoundLemmas.{legal_is_sound}
 use Rattle.st_snap.specs.Snapshots.{Snapshots, world_of, with_event, IsLegalHeap, HasCell, HadCell, word_then}
@@ -56,22 +57,6 @@ next_keeps_cells shape sizes w (Cas m obj field expect value false) o f s l some
 next_keeps_cells shape sizes w (Launch m site number args) o f s l some = some
 next_keeps_cells shape sizes w (Retire m number) o f s l some = some
 
-next_keeps_launches :
-    (shape : ShapeLists) (sizes : Sizes) (w : World) (e : Event) (n : ℕ) (k : Launched)
-    → IsSoundWorld shape sizes w
-    → IsLegalNext shape sizes w e
-    → w.launched n ≡ Some k
-    → (next shape sizes w e).launched n ≡ Some k
-next_keeps_launches shape sizes w (New m obj class) n k s l h = h
-next_keeps_launches shape sizes w (Load m obj field value) n k s l h = h
-next_keeps_launches shape sizes w (Store m obj field value) n k s l h = h
-next_keeps_launches shape sizes w (Cas m obj field expect value true) n k s l h = h
-next_keeps_launches shape sizes w (Cas m obj field expect value false) n k s l h = h
-next_keeps_launches shape sizes w (Launch m site number args) n k s l h =
-    at_other number (Some (record { past = w.heap; thread = m; site = site; args = args })) w.launched n
-    (λ e. omega (arith, e, (s.launches.only n k h).1, (legal_launch shape sizes w m number site args l).next_number)) ∙ h
-next_keeps_launches shape sizes w (Retire m number) n k s l h = h
-
 -- what is known before an event
 before :
     (s : Snapshots) (e : Event)
@@ -104,5 +89,5 @@ past_stays s e number obj field fits legal had = cases ((world_of s).launched nu
     cases None h i = cc
     cases (Some k) h i =
         let b = before s e fits legal in
-        let same = next_keeps_launches s.shape s.sizes (world_of s) e number k b.0 b.1 h in
+        let same = next_keeps_launch s.shape s.sizes (world_of s) e number k b.0 b.1 h in
         subst (λ (w : World). IsSome (word_then (w.launched number) obj field)) (sym (world_after_one_more s.shape s.sizes s.journal e)) (rw same i)

@@ -9,7 +9,7 @@ use st_events::MOST_LANES;
 pub(crate) const LANES: usize = MOST_LANES as usize;
 
 /// Where the version of an object is that a check reads.
-#[derive(Clone, Copy, Debug)]
+#[derive(Clone, Copy)]
 pub(crate) enum Target {
     /// In the copy of this number.
     Copied(u32),
@@ -18,14 +18,14 @@ pub(crate) enum Target {
 }
 
 /// Where the check that was launched at this epoch finds its version. A check of another epoch reads the live words.
-#[derive(Clone, Copy, Debug)]
+#[derive(Clone, Copy)]
 pub(crate) struct Forward {
     pub epoch: u32,
     pub target: Target,
 }
 
 /// What stands beside an object's fields.
-#[derive(Clone, Copy, Debug)]
+#[derive(Clone, Copy)]
 pub(crate) struct Header {
     /// The epoch at the New or the last change of the object, whichever is later.
     pub stamp: u32,

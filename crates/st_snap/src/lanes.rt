@@ -8,7 +8,7 @@ use std::alloc::Global;
 use std::marker::Model;
 
 /// The place of an active check. It is moved and never copied, so a check is retired once.
-#[derive(Debug, Drop)]
+#[derive(Drop)]
 pub struct Lane {
     pub(crate) number: u32,
     /// Which lane the check has, from 0.
@@ -25,7 +25,7 @@ impl Lane {
 }
 
 /// Which check each lane has. Contracts see the list.
-#[derive(Debug, Drop)]
+#[derive(Drop)]
 pub(crate) struct Lanes {
     /// The number of the check at each lane, where one is.
     checks: Vec<Option<u32>>,

@@ -15,7 +15,7 @@ pub(crate) type Words = [u64; MOST_FIELDS];
 
 /// Which version of an object a copy holds: the one that stood from the change at epoch `after` to the change at epoch
 /// `upto`. The checks launched in between read it.
-#[derive(Clone, Copy, Debug)]
+#[derive(Clone, Copy)]
 pub(crate) struct Version {
     pub obj: u32,
     pub after: u32,
@@ -25,7 +25,7 @@ pub(crate) struct Version {
 }
 
 /// All copies. Contracts see the versions that are kept, in the order in which they were, each with its words.
-#[derive(Debug, Drop)]
+#[derive(Drop)]
 pub(crate) struct Pool {
     /// By number of the copy.
     words: Vec<Words>,

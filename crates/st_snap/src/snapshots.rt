@@ -13,7 +13,7 @@ use std::alloc::Global;
 use std::marker::Model;
 
 /// A live heap with snapshots.
-#[derive(Debug, Drop)]
+#[derive(Drop)]
 pub struct SnapHeap {
     shape: Shape,
     sizes: Sizes,

@@ -12,7 +12,7 @@ use std::alloc::Global;
 use std::marker::Model;
 
 /// The live heap and what the active checks need of older ones. Contracts see it as lists.
-#[derive(Debug, Drop)]
+#[derive(Drop)]
 pub(crate) struct Table {
     pub heap: HeapMap,
     /// By object.

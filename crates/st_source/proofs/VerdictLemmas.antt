@@ -10,25 +10,27 @@ use Rattle.st_lex.specs.declared.limits.TheConstants.{MOST_SOURCE_BYTES}
 use Rattle.st_lex.specs.Places.{place_at}
 use Rattle.st_lex.specs.Tokens.{IsTokensOf, IsFaultOf}
 use Rattle.st_lex.proofs.Exact.{one_list, some_reading}
-use Rattle.st_syntax.specs.declared.counts.What.{What}
-use Rattle.st_syntax.specs.declared.token_limits.Over.{Over}
-use Rattle.st_syntax.specs.declared.token_limits.Over.TheVariants as over
-use Rattle.st_syntax.specs.Counts.{items_of, first_excess}
-use Rattle.st_syntax.specs.Grammar.{Parses}
-use Rattle.st_syntax.specs.Terminals.{Terminal, terminals_of}
-use Rattle.st_syntax.specs.TokenLimits.{first_over}
-use Rattle.st_reading.specs.Reading.{Outcome, program}
-use Rattle.st_reading.proofs.Exact.{one_tree}
+use Rattle.st_grammar.specs.declared.counts.What.{What}
+use Rattle.st_grammar.specs.declared.token_limits.Over.{Over}
+use Rattle.st_grammar.specs.declared.token_limits.Over.TheVariants as over
+use Rattle.st_grammar.specs.Counts.{items_of, first_excess}
+use Rattle.st_grammar.specs.Grammar.{Parses}
+use Rattle.st_grammar.specs.Terminals.{Terminal, terminals_of}
+use Rattle.st_grammar.specs.TokenLimits.{first_over}
+use Rattle.st_grammar_laws.specs.Reading.{Outcome, program}
+use Rattle.st_grammar_laws.proofs.Exact.{one_tree}
 use Rattle.st_parse.specs.Outcomes.{IsProgramOf, error_of, counted_by, counted, read_by, read, then_counted, limited_by, answer, IsButForMemory}
+use Rattle.st_parse.specs.Faults.{HasParseFault}
+use Rattle.st_parse.proofs.FaultLemmas.{one_parse_fault, no_program}
 use Rattle.st_parse.proofs.OutcomeLemmas.{Meant, told}
 use Rattle.st_types.specs.Rules.{faults_of}
 use Rattle.st_source.specs.Accepted.{IsTreeOf, IsSourceOf, IsAccepted}
-use Rattle.st_source.specs.Refused.{HasParseFault, HasNoTree, BreaksRule, IsRefusedFor}
+use Rattle.st_source.specs.Refused.{HasNoTree, BreaksRule, IsRefusedFor}
 use Rattle.st_source.specs.Terms.{ParseError, TypeError, SourceError}
 use Rattle.st_source.specs.Terms.lex
 use Rattle.st_source.specs.Terms.parse
 use Rattle.st_source.specs.Terms.error
-use Rattle.st_source.proofs.FaultLemmas.{one_lex_fault, one_parse_fault, no_program, no_tokens}
+use Rattle.st_source.proofs.FaultLemmas.{one_lex_fault, no_tokens}
 
 -- a text has one tree
 one_tree_of : (text : List ℕ) (a b : Program) → IsTreeOf text a → IsTreeOf text b → a ≡ b

@@ -1,7 +1,7 @@
 -- What is written of a text that is refused: one line, with the place and the fault.
 use Rattle.std.specs.Prelude.{ℕ, List, ◌++◌, codes}
-use Rattle.st_syntax.specs.declared.counts.What.{What}
-use Rattle.st_syntax.specs.declared.counts.What.TheVariants as what
+use Rattle.st_grammar.specs.declared.counts.What.{What}
+use Rattle.st_grammar.specs.declared.counts.What.TheVariants as what
 use Rattle.st_texts.specs.Texts.{place_text}
 use Rattle.st_source.specs.Terms.{LexError, ParseError, TypeError, SourceError}
 use Rattle.st_source.specs.Terms.lex

@@ -6,14 +6,10 @@ use Rattle.st_lex.specs.declared.kinds.Token.{Token}
 use Rattle.st_lex.specs.declared.limits.TheConstants.{MOST_SOURCE_BYTES}
 use Rattle.st_lex.specs.Errors.{StopsAt}
 use Rattle.st_lex.specs.Tokens.{IsTokensOf}
-use Rattle.st_parse.specs.Outcomes.{StopsUnexpected, HasTooMany}
-use Rattle.st_syntax.specs.declared.token_limits.Over.TheVariants as over
-use Rattle.st_syntax.specs.Terminals.{terminals_of}
-use Rattle.st_syntax.specs.TokenLimits.{IsFirstOver}
+use Rattle.st_parse.specs.Faults.{HasParseFault}
 use Rattle.st_types.specs.Rules.{faults_of}
 use Rattle.st_source.specs.Terms.{LexError, ParseError, TypeError, SourceError}
 use Rattle.st_source.specs.Terms.lex
-use Rattle.st_source.specs.Terms.parse
 use Rattle.st_source.specs.Terms.error
 use Rattle.st_source.specs.Accepted.{IsTreeOf}
 
@@ -22,14 +18,6 @@ abbrev pub HasLexFault : List ℕ → LexError → Type 0
 HasLexFault text lex.Memory = ⊥
 HasLexFault text (lex.BadByte at) = StopsAt text fault.BadByte at
 HasLexFault text (lex.LongNumber at) = StopsAt text fault.LongNumber at
-
--- the tokens have this fault, first at this place: limits on tokens, then the grammar, then limits on counts
-abbrev pub HasParseFault : List ℕ → List Token → ParseError → Type 0
-HasParseFault text tokens parse.Memory = ⊥
-HasParseFault text tokens (parse.Unexpected at) = StopsUnexpected text tokens at
-HasParseFault text tokens (parse.TooMany what at) = HasTooMany text tokens what at
-HasParseFault text tokens (parse.TooDeep at) = IsFirstOver (terminals_of text tokens) over.Deep at
-HasParseFault text tokens (parse.TooLong at) = IsFirstOver (terminals_of text tokens) over.Long at
 
 -- the text is not too long, and has no tokens
 pub record HasNoTokens (text : List ℕ) (why : LexError) : Type 0 where

@@ -36,19 +36,19 @@ impl fmt::Display for SourceError {
 }
 
 /// Why a text has no tokens, with its place.
-#[derive(Clone, Copy, Debug)]
+#[derive(Clone, Copy)]
 struct LexText(LexError);
 
 /// Why tokens have no tree, with its place.
-#[derive(Clone, Copy, Debug)]
+#[derive(Clone, Copy)]
 struct ParseText(ParseError);
 
 /// Why a tree is no program, with its place.
-#[derive(Clone, Copy, Debug)]
+#[derive(Clone, Copy)]
 struct TypeText(TypeError);
 
 /// What there is too much of.
-#[derive(Clone, Copy, Debug)]
+#[derive(Clone, Copy)]
 struct WhatText(What);
 
 impl fmt::Display for LexText {

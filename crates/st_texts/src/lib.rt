@@ -1,8 +1,6 @@
 //! Places, verdicts and ends as texts: what the report, the JSON report and the journal say alike.
 #![tactic(auto)]
 
-#[cfg(test)]
-mod tests;
 mod texts;
 
 pub use texts::{EndText, PlaceText, PlainText, VerdictText};

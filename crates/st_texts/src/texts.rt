@@ -6,19 +6,19 @@ use st_events::{End, Plain, Site, Verdict};
 use std::fmt;
 
 /// A place, as `LINE:COLUMN`.
-#[derive(Clone, Copy, Debug)]
+#[derive(Clone, Copy)]
 pub struct PlaceText(pub Site);
 
 /// A value of a check, as a text.
-#[derive(Clone, Copy, Debug)]
+#[derive(Clone, Copy)]
 pub struct PlainText(pub Plain);
 
 /// A verdict, as a text.
-#[derive(Clone, Copy, Debug)]
+#[derive(Clone, Copy)]
 pub struct VerdictText(pub Verdict);
 
 /// An end of a thread, as a text.
-#[derive(Clone, Copy, Debug)]
+#[derive(Clone, Copy)]
 pub struct EndText(pub End);
 
 impl fmt::Display for PlaceText {

@@ -4,11 +4,13 @@ use Rattle.st_events.specs.Terms.{RanLists}
 use Rattle.st_io.specs.Counts.{RoseBy}
 use Rattle.st_io.specs.States.{FilesState, SinkState}
 use Rattle.st_top.specs.Commands.{Told, IsInputAccepted, IsInputTold}
-use Rattle.st_top.specs.Endings.{IsDoneCall, IsRefusedCall, IsEnded, IsDoneStatus, IsRefusalStatus, AreWordsRefused, HasHeadline, HasRunStatus, IsRefusedExactly, IsStatusOf, IsComplete}
+use Rattle.st_top.specs.Endings.{IsDoneCall, IsRefusedCall, IsEnded, IsDoneStatus, IsRefusalStatus, AreWordsRefused, HasRunStatus, IsRefusedExactly, IsStatusOf, IsComplete}
+use Rattle.st_top.specs.Headline.{IsHeadline}
 use Rattle.st_top.specs.Orders.{order_of}
 use Rattle.st_top.specs.declared.outcomes.Outcome.{Outcome}
 use Rattle.st_words.specs.declared.words.Words.{Words}
 use Rattle.st_words.specs.declared.words.Words.TheVariants as words
+use Rattle.st_top.proofs.DoneLemmas.{headline_is_shown}
 use Rattle.st_top.proofs.EndingLemmas.{ended_call_has_headline, ended_call_has_its_run, done_status_tells_done, refusal_status_tells_refused, accepted_words_are_not_refused}
 use Rattle.st_top.proofs.EndingLemmas.{read_fault_comes_by_count, write_fault_comes_by_count, input_is_refused_exactly, written_run_has_its_status, call_is_complete}
 
@@ -24,13 +26,14 @@ follows (Some call) P Q rule h = rule call h
 -- the headline of a call
 pub headline_of_call : (accepted : Option Words) (fb fn : FilesState) (outcome : Outcome) (before now : SinkState)
     → IfSome accepted (EndedWith fb fn outcome before now)
-    → IfSome outcome.ran (λ ran. IfSome accepted (λ call. HasHeadline fb.told call outcome.status ran before now))
+    → IfSome outcome.ran (λ ran. IfSome accepted (λ call. IfSome (order_of fb.told call) (λ order. IsHeadline order outcome.status ran before now)))
 headline_of_call None fb fn outcome before now ended = nothing outcome.ran
   where
     nothing : (ran : Option RanLists) → IfSome ran (λ r. Unit {0})
     nothing None = tt
     nothing (Some r) = tt
-headline_of_call (Some call) fb fn outcome before now ended = ended_call_has_headline call fb fn outcome before now ended
+headline_of_call (Some call) fb fn outcome before now ended =
+    headline_is_shown fb.told call outcome.status outcome.ran before now (ended_call_has_headline call fb fn outcome before now ended)
 
 -- for the clause `ran`: there is a run exactly where one was done
 pub run_of_call : (accepted : Option Words) (fb fn : FilesState) (outcome : Outcome) (before now : SinkState)

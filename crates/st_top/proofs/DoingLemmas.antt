@@ -1,5 +1,5 @@
 -- From what was made of a program to what is left of a command.
-use Rattle.std.proofs.Common.{◌≡◌, ℕ, List, Option, Some, None, IfSome, refl, sym, subst}
+use Rattle.std.proofs.Common.{◌≡◌, ℕ, List, Option, Some, None, refl, sym, subst}
 use Rattle.std.specs.List.{All}
 use Rattle.st_ast.specs.declared.declarations.Program.{Program}
 use Rattle.st_audit.specs.declared.findings.Finding.{Finding}
@@ -8,17 +8,16 @@ use Rattle.st_events.specs.Terms.{RanLists, ShapeLists, AreWithinLimits, IsWithi
 use Rattle.st_gen.specs.Source.{source_text}
 use Rattle.st_io.specs.States.{FilesState}
 use Rattle.st_journal.specs.Format.{FileLists, IsFile, HasUsedArgs}
-use Rattle.st_program.specs.Terms.{Program as Numbers}
-use Rattle.st_program.specs.WellFormed.{IsWellFormed}
+use Rattle.st_resolved.specs.Terms.{Program as Numbers}
+use Rattle.st_resolved.specs.WellFormed.{IsWellFormed}
 use Rattle.st_report.specs.Status.{run_status}
-use Rattle.st_schedule.specs.Runs.{scheduled_run}
-use Rattle.st_source.specs.Accepted.{IsSourceOf}
-use Rattle.st_threads.specs.Right.{IsRightRun}
+use Rattle.st_run_meaning.specs.Runs.{scheduled_run}
+use Rattle.st_thread_meaning.specs.Right.{IsRightRun}
 use Rattle.st_top.specs.Causes.{IsSourceCause, IsJournalCause}
-use Rattle.st_top.specs.Deeds.{Left, IsRunAs, IsChecked, IsGenerated, IsJournalOf, IsAnswer, IsAudited}
+use Rattle.st_top.specs.Deeds.{Left, IsRunAs, IsChecked, IsGenerated, IsOfJournal, IsAnswer, IsAudited}
 use Rattle.st_top.specs.Orders.{Order}
 use Rattle.st_top.specs.Outputs.{audit_line, audit_status}
-use Rattle.st_top.specs.Programs.{mutators_of, accepted_line}
+use Rattle.st_top.specs.Programs.{IsOfSource, mutators_of, accepted_line}
 use Rattle.st_top.specs.declared.errors.Refusal.{Refusal}
 use Rattle.st_top.specs.declared.errors.Refusal.TheVariants.{NoMemory}
 use Rattle.st_top.proofs.RunLemmas.{IsShort, legal_journal_has_used_args, scheduled_run_is_short}
@@ -53,16 +52,11 @@ pub run_is_as_ordered : (order : Order) (tree : Program) (sizes : Sizes) (ran : 
     → IsRightRun (shape_of tree) (resolution tree) sizes ran
     → output ≡ order.output tree sizes ran
     → status ≡ run_status ran
-    → IfSome order.source (λ text. IsSourceOf text tree)
+    → IsOfSource order.source tree
     → IsRunAs order (record { output = output; status = status; ran = Some ran })
 run_is_as_ordered order tree sizes ran output status asked by_seed right text own accepted = record {
-  program = tree;
-  accepted = accepted;
-  sizes = sizes;
-  as_asked = asked;
   ran = ran;
-  by_seed = by_seed;
-  right = right;
+  run = record { program = tree; accepted = accepted; sizes = sizes; as_asked = asked; by_seed = by_seed; right = right };
   is_left = same_left (order.output tree sizes ran) output (run_status ran) status (Some ran) text own;
 }
 
@@ -71,7 +65,7 @@ run_is_as_ordered order tree sizes ran output status asked by_seed right text ow
 -- the line of counts is that of `check`
 pub source_is_checked : (source : Option (List ℕ)) (tree : Program) (output : List ℕ)
     → output ≡ accepted_line tree
-    → IfSome source (λ text. IsSourceOf text tree)
+    → IsOfSource source tree
     → IsChecked source (record { output = output; status = 0; ran = None })
 source_is_checked source tree output text accepted = record { program = tree; accepted = accepted; is_left = same_left (accepted_line tree) output 0 0 None text refl }
 
@@ -87,8 +81,8 @@ pub journal_is_audited : (source journal : Option (List ℕ)) (tree : Program) (
     → IsAnswer tree file found
     → output ≡ audit_line found
     → status ≡ audit_status found
-    → IfSome source (λ text. IsSourceOf text tree)
-    → IfSome journal (λ text. IsJournalOf text file)
+    → IsOfSource source tree
+    → IsOfJournal journal file
     → IsAudited source journal (record { output = output; status = status; ran = None })
 journal_is_audited source journal tree file found output status fits answer text own accepted read = record {
   program = tree;

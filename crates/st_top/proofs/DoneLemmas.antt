@@ -8,7 +8,8 @@ use Rattle.st_io.specs.States.{SinkState}
 use Rattle.st_report.specs.Status.{run_status, is_unfinished, is_fault, is_undecided}
 use Rattle.st_top.specs.Commands.{Told, IsDone}
 use Rattle.st_top.specs.Deeds.{Left, IsRunAs}
-use Rattle.st_top.specs.Endings.{IsRunStatus, IsStatusOf, IsDoneStatus, HasHeadline, HasRunStatus, IsDoneCall}
+use Rattle.st_top.specs.Endings.{IsRunStatus, IsStatusOf, IsDoneStatus, HasRunStatus, IsDoneCall}
+use Rattle.st_top.specs.Headline.{IsHeadline}
 use Rattle.st_top.specs.Orders.{Order, order_of, run_order, demo_order}
 use Rattle.st_top.specs.Outputs.{audit_status}
 use Rattle.st_top.specs.Putting.{IsWritten}
@@ -126,6 +127,20 @@ done_call_has_status told call outcome before now h = elim h.written [
 
 -- ---- the run that is left
 
+-- the words order a run, and the headline holds of it
+pub record HasHeadline (told : Told) (words : Words) (status : ℕ) (ran : RanLists) (before now : SinkState) : Type 0 where
+  pub order : Order
+  pub ordered : order_of told words ≡ Some order
+  pub headline : IsHeadline order status ran before now
+
+-- so the headline holds of whatever run the words order
+pub headline_is_shown : (told : Told) (call : Words) (status : ℕ) (ran : Option RanLists) (before now : SinkState)
+    → IfSome ran (λ r. HasHeadline told call status r before now)
+    → IfSome ran (λ r. IfSome (order_of told call) (λ order. IsHeadline order status r before now))
+headline_is_shown told call status None before now h = tt
+headline_is_shown told call status (Some ran) before now h =
+    subst (λ (o : Option Order). IfSome o (λ order. IsHeadline order status ran before now)) (sym h.ordered) h.headline
+
 -- where a run was done, the headline holds of what is left
 run_has_headline : (told : Told) (call : Words) (order : Order) (left : Left) (outcome : Outcome) (before now : SinkState)
     → order_of told call ≡ Some order → IsRunAs order left → outcome.ran ≡ left.ran → IsWritten left.status left.output outcome.status before now
@@ -136,12 +151,7 @@ run_has_headline told call order left outcome before now ordered run same writte
       order = order;
       ordered = ordered;
       headline = record {
-        program = run.program;
-        accepted = run.accepted;
-        sizes = run.sizes;
-        as_asked = run.as_asked;
-        by_seed = run.by_seed;
-        right = run.right;
+        run = run.run;
         written = subst (λ (l : Left). IsWritten l.status l.output outcome.status before now) run.is_left written;
       };
     })

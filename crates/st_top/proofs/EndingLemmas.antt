@@ -4,14 +4,14 @@ use Rattle.st_events.specs.Terms.{RanLists}
 use Rattle.st_io.specs.Counts.{RoseBy}
 use Rattle.st_io.specs.States.{FilesState, SinkState, GoOn}
 use Rattle.st_top.specs.Commands.{Told, HasCause}
-use Rattle.st_top.specs.Endings.{IsDoneCall, IsRefusedCall, IsToldRefusal, IsEnded, IsDoneStatus, IsRefusalStatus, HasHeadline, HasRunStatus, IsRefusedExactly, IsStatusOf, IsComplete}
+use Rattle.st_top.specs.Endings.{IsDoneCall, IsRefusedCall, IsToldRefusal, IsEnded, IsDoneStatus, IsRefusalStatus, HasRunStatus, IsRefusedExactly, IsStatusOf, IsComplete}
 use Rattle.st_top.specs.Orders.{order_of}
 use Rattle.st_top.specs.Refusals.{refusal_status}
 use Rattle.st_top.specs.declared.errors.Refusal.{Refusal}
 use Rattle.st_top.specs.declared.errors.Refusal.TheVariants as refusal
 use Rattle.st_top.specs.declared.outcomes.Outcome.{Outcome}
 use Rattle.st_words.specs.declared.words.Words.{Words}
-use Rattle.st_top.proofs.DoneLemmas.{run_has_its_status, left_has_status, run_status_is_no_fault, done_call_has_status, done_call_has_headline, done_call_has_its_run}
+use Rattle.st_top.proofs.DoneLemmas.{HasHeadline, run_has_its_status, left_has_status, run_status_is_no_fault, done_call_has_status, done_call_has_headline, done_call_has_its_run}
 use Rattle.st_top.proofs.InputLemmas.{accepted_input_is_not_refused, done_input_is_accepted}
 use Rattle.st_top.proofs.RefusalLemmas.{done_is_no_refusal, words_are_no_cause, two_tells_words, five_tells_a_fault, read_fault_was_counted, memory_needs_no_cause}
 

@@ -1,13 +1,14 @@
 -- Which inputs are refused.
-use Rattle.std.proofs.Common.{◌≡◌, ℕ, ◌<◌, ◌≤◌, List, length, Option, Some, None, IsSome, IfSome, inl, inr, ap, arith}
+use Rattle.std.proofs.Common.{◌≡◌, ℕ, ◌<◌, ◌≤◌, List, length, Option, Some, None, IsSome, IfSome, inl, inr, ap, subst, arith}
 use Rattle.st_gen.specs.Source.{source_text}
 use Rattle.st_io.specs.States.{FilesState}
 use Rattle.st_journal.specs.Format.{FileLists, IsFile}
-use Rattle.st_source.specs.Accepted.{IsSourceOf, IsAccepted}
+use Rattle.st_source.specs.Accepted.{IsAccepted}
 use Rattle.st_ast.specs.declared.declarations.Program.{Program}
 use Rattle.st_top.specs.Causes.{IsSourceCause, IsJournalCause, IsTextCause, IsJournalText}
 use Rattle.st_top.specs.Commands.{Told, IsDone, HasCause, IsInputAccepted, IsInputTold}
-use Rattle.st_top.specs.Deeds.{Left, IsJournalOf}
+use Rattle.st_top.specs.Deeds.{Left, IsJournalOf, IsOfJournal}
+use Rattle.st_top.specs.Programs.{IsOfSource}
 use Rattle.st_top.specs.Refusals.{refusal_status}
 use Rattle.st_top.specs.declared.errors.Refusal.{Refusal}
 use Rattle.st_top.specs.declared.errors.Refusal.TheVariants.{Words, NoMemory, ReadFault, SourceTooLong, Source, JournalTooLong, JournalLine, JournalVersion}
@@ -68,27 +69,27 @@ accepted_input_is_not_refused (words.Check file) before now refusal cause three 
 accepted_input_is_not_refused (words.Audit file journal) before now refusal (inl cause) three there accepted =
     accepted_source_is_not_refused (before.told file) before now refusal cause three there.0 accepted.0
 accepted_input_is_not_refused (words.Audit file journal) before now refusal (inr cause) three there accepted =
-    accepted_journal_is_not_refused (before.told journal) before now refusal cause three there.1 accepted.1
+    accepted_journal_is_not_refused (before.told journal) before now refusal cause.1 three there.1 accepted.1
 accepted_input_is_not_refused (words.Gen n) before now refusal cause three there accepted =
     let memory : refusal_status refusal ≡ 7 = ap refusal_status cause in omega (arith, three, memory)
 accepted_input_is_not_refused (words.Demo n) before now refusal cause three there accepted =
     accepted_text_is_not_refused (source_text n) refusal cause three accepted
 
 -- a source of a program is accepted
-source_is_accepted : (told : Option (List ℕ)) (program : Program) → IfSome told (λ text. IsSourceOf text program) → IfSome told IsAccepted
+pub source_is_accepted : (told : Option (List ℕ)) (program : Program) → IsOfSource told program → IfSome told IsAccepted
 source_is_accepted None program h = tt
-source_is_accepted (Some text) program h = record { tree = program; source = h }
+source_is_accepted (Some text) program h = subst IsAccepted h.told (record { tree = program; source = h.spelled })
 
-journal_is_accepted : (told : Option (List ℕ)) (file : FileLists) → IsFile file → IfSome told (λ text. IsJournalOf text file) → IfSome told IsJournalText
+journal_is_accepted : (told : Option (List ℕ)) (file : FileLists) → IsFile file → IsOfJournal told file → IfSome told IsJournalText
 unfolding IsJournalText
 journal_is_accepted None file fits h = tt
-journal_is_accepted (Some text) file fits h = (file, fits, h)
+journal_is_accepted (Some text) file fits h = (file, fits, subst (λ (bytes : List ℕ). IsJournalOf bytes file) h.told h.spelled)
 
 -- what was done was accepted
 pub done_input_is_accepted : (told : Told) (call : CallWords) (left : Left) → IsDone told call left → IsInputAccepted told call
-done_input_is_accepted told (words.Run call) left done = source_is_accepted (told call.file) done.program done.accepted
+done_input_is_accepted told (words.Run call) left done = source_is_accepted (told call.file) done.run.program done.run.accepted
 done_input_is_accepted told (words.Check file) left done = source_is_accepted (told file) done.program done.accepted
 done_input_is_accepted told (words.Audit file journal) left done =
     (source_is_accepted (told file) done.program done.accepted, journal_is_accepted (told journal) done.file done.fits done.read)
 done_input_is_accepted told (words.Gen n) left done = tt
-done_input_is_accepted told (words.Demo n) left done = source_is_accepted (Some (source_text n)) done.program done.accepted
+done_input_is_accepted told (words.Demo n) left done = source_is_accepted (Some (source_text n)) done.run.program done.run.accepted

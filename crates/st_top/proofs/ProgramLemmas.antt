@@ -2,10 +2,10 @@
 use Rattle.std.proofs.Common.{◌≡◌, ℕ, suc, List, [], ◌∷◌, ◌++◌, length, map, refl, sym, ap, ◌∙◌}
 use Rattle.st_ast.specs.declared.declarations.Program.{Program}
 use Rattle.st_events.specs.declared.events.Site.{Site}
-use Rattle.st_program.specs.declared.programs.Check.{Check}
-use Rattle.st_program.specs.declared.programs.Resolved.{Resolved}
-use Rattle.st_program.specs.Terms.{Program as Numbers}
-use Rattle.st_program.specs.Views.{program_of, check_of}
+use Rattle.st_resolved.specs.declared.programs.Check.{Check}
+use Rattle.st_resolved.specs.declared.programs.Resolved.{Resolved}
+use Rattle.st_resolved.specs.Terms.{Program as Numbers}
+use Rattle.st_resolved.specs.Views.{program_of, check_of}
 use Rattle.st_top.specs.Programs.{places_of, mutators_of, counts_line, accepted_line}
 use Rattle.st_types.specs.Rules.{WalkedRoutine, walk_routines, walk_thread, walked_procs, resolution}
 use Rattle.st_types.specs.Statements.{Launched}

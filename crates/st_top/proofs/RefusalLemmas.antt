@@ -58,7 +58,7 @@ pub words_are_no_cause : (call : CallWords) (before now : FilesState) → HasCau
 words_are_no_cause (words.Run call) before now cause = cause
 words_are_no_cause (words.Check file) before now cause = cause
 words_are_no_cause (words.Audit file journal) before now (inl cause) = cause
-words_are_no_cause (words.Audit file journal) before now (inr cause) = cause
+words_are_no_cause (words.Audit file journal) before now (inr cause) = cause.1
 words_are_no_cause (words.Gen n) before now cause = cc
 words_are_no_cause (words.Demo n) before now cause = cause
 
@@ -89,7 +89,7 @@ pub read_fault_was_counted : (call : CallWords) (before now : FilesState) → Ha
 read_fault_was_counted (words.Run call) before now cause = cause
 read_fault_was_counted (words.Check file) before now cause = cause
 read_fault_was_counted (words.Audit file journal) before now (inl cause) = cause
-read_fault_was_counted (words.Audit file journal) before now (inr cause) = cause
+read_fault_was_counted (words.Audit file journal) before now (inr cause) = cause.1
 read_fault_was_counted (words.Gen n) before now cause = cc
 read_fault_was_counted (words.Demo n) before now cause = absurd cause
 

@@ -19,16 +19,16 @@ use Rattle.st_events.specs.Terms.{IsLegal, IsLegalNext, IsLegalFrom, next, first
 use Rattle.st_events.proofs.KeptLemmas.{and_parts}
 use Rattle.st_events.proofs.LegalEvents.{is_same, legal_launch}
 use Rattle.st_journal.specs.Format.{HasUsedArgs, HasUsedWords}
-use Rattle.st_program.specs.Terms.{Program}
-use Rattle.st_program.specs.WellFormed.{IsWellFormed}
-use Rattle.st_schedule.specs.Runs.{ComesTo, is_over, by_turn, verdict_of, ran_of, scheduled_run}
-use Rattle.st_schedule.specs.SoundStates.{IsSoundState}
-use Rattle.st_schedule.specs.States.{State, first_state}
-use Rattle.st_schedule.specs.Steps.{retires, turn_of}
-use Rattle.st_schedule.proofs.AgentLemmas.{chosen_is_ready}
-use Rattle.st_schedule.proofs.EndLemmas.{runs_come_to_one_end}
-use Rattle.st_schedule.proofs.RoomLemmas.{sound_state_has_room}
-use Rattle.st_schedule.proofs.SoundLemmas.{first_is_sound, turn_keeps_sound}
+use Rattle.st_resolved.specs.Terms.{Program}
+use Rattle.st_resolved.specs.WellFormed.{IsWellFormed}
+use Rattle.st_run_meaning.specs.Runs.{ComesTo, is_over, by_turn, verdict_of, ran_of, scheduled_run}
+use Rattle.st_run_meaning.specs.SoundStates.{IsSoundState}
+use Rattle.st_run_meaning.specs.States.{State, first_state}
+use Rattle.st_run_meaning.specs.Steps.{retires, turn_of}
+use Rattle.st_run_meaning.proofs.AgentLemmas.{chosen_is_ready}
+use Rattle.st_run_meaning.proofs.EndLemmas.{runs_come_to_one_end}
+use Rattle.st_run_meaning.proofs.RoomLemmas.{sound_state_has_room}
+use Rattle.st_run_meaning.proofs.SoundLemmas.{first_is_sound, turn_keeps_sound}
 
 -- ---- arguments
 

@@ -23,12 +23,13 @@ IsDone told (words.Audit file journal) left = IsAudited (told file) (told journa
 IsDone told (words.Gen n) left = IsGenerated n left
 IsDone told (words.Demo n) left = IsRunAs (demo_order n) left
 
--- the cause of a refusal of the command, where its words are accepted
+-- the cause of a refusal of the command, where its words are accepted; a journal is refused only where its source, if told, is accepted
 abbrev pub HasCause : Words → FilesState → FilesState → Refusal → Type 0
 HasCause (words.Run call) before now refusal = IsSourceCause (before.told call.file) before now refusal
 HasCause (words.Check file) before now refusal = IsSourceCause (before.told file) before now refusal
 HasCause (words.Audit file journal) before now refusal =
-    IsSourceCause (before.told file) before now refusal ⊎ IsJournalCause (before.told journal) before now refusal
+    IsSourceCause (before.told file) before now refusal
+    ⊎ (IfSome (before.told file) IsAccepted × IsJournalCause (before.told journal) before now refusal)
 HasCause (words.Gen n) before now refusal = refusal ≡ NoMemory
 HasCause (words.Demo n) before now refusal = IsTextCause (source_text n) refusal
 
@@ -47,3 +48,11 @@ IsInputTold told (words.Check file) = IsSome (told file)
 IsInputTold told (words.Audit file journal) = IsSome (told file) × IsSome (told journal)
 IsInputTold told (words.Gen n) = Unit {0}
 IsInputTold told (words.Demo n) = Unit {0}
+
+-- the command reads no file
+abbrev pub ReadsNoFile : Words → Type 0
+ReadsNoFile (words.Run call) = ⊥
+ReadsNoFile (words.Check file) = ⊥
+ReadsNoFile (words.Audit file journal) = ⊥
+ReadsNoFile (words.Gen n) = Unit {0}
+ReadsNoFile (words.Demo n) = Unit {0}

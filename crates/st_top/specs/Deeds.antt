@@ -4,17 +4,13 @@ use Rattle.st_ast.specs.declared.declarations.Program.{Program}
 use Rattle.st_audit.specs.declared.findings.Finding.{Finding}
 use Rattle.st_audit.specs.declared.findings.Finding.TheVariants as found
 use Rattle.st_audit.specs.Findings.{IsRightJournal, IsFinding}
-use Rattle.st_events.specs.declared.limits.Sizes.{Sizes}
 use Rattle.st_events.specs.Terms.{RanLists}
 use Rattle.st_gen.specs.Source.{source_text}
 use Rattle.st_journal.specs.Format.{FileLists, IsFile, journal_text}
 use Rattle.st_report.specs.Status.{run_status}
-use Rattle.st_schedule.specs.Runs.{scheduled_run}
-use Rattle.st_source.specs.Accepted.{IsSourceOf}
-use Rattle.st_threads.specs.Right.{IsRightRun}
-use Rattle.st_top.specs.Orders.{Order}
+use Rattle.st_top.specs.Orders.{Order, IsOrderedRun}
 use Rattle.st_top.specs.Outputs.{audit_line, audit_status}
-use Rattle.st_top.specs.Programs.{mutators_of, accepted_line}
+use Rattle.st_top.specs.Programs.{IsOfSource, accepted_line}
 use Rattle.st_top.specs.declared.limits.TheConstants.{MOST_JOURNAL_BYTES}
 use Rattle.st_report.specs.declared.statuses.TheConstants.{STATUS_HOLDS}
 use Rattle.st_types.specs.Rules.{resolution, shape_of}
@@ -27,25 +23,26 @@ pub record Left : Type 0 where
 
 -- a run as it was ordered
 pub record IsRunAs (order : Order) (left : Left) : Type 0 where
-  pub program : Program
-  pub accepted : IfSome order.source (λ text. IsSourceOf text program)
-  pub sizes : Sizes
-  pub as_asked : sizes ≡ order.sizes (mutators_of program)
   pub ran : RanLists
-  pub by_seed : ran ≡ scheduled_run (shape_of program) (resolution program) sizes order.seed
-  pub right : IsRightRun (shape_of program) (resolution program) sizes ran
-  pub is_left : left ≡ record { output = order.output program sizes ran; status = run_status ran; ran = Some ran }
+  pub run : IsOrderedRun order ran
+  pub is_left : left ≡ record { output = order.output run.program run.sizes ran; status = run_status ran; ran = Some ran }
 
 -- a source that was read and typed
 pub record IsChecked (source : Option (List ℕ)) (left : Left) : Type 0 where
   pub program : Program
-  pub accepted : IfSome source (λ text. IsSourceOf text program)
+  pub accepted : IsOfSource source program
   pub is_left : left ≡ record { output = accepted_line program; status = STATUS_HOLDS; ran = None }
 
 -- the bytes of a journal file that is read: no more than the limit, and the text of this file
 pub record IsJournalOf (text : List ℕ) (file : FileLists) : Type 0 where
   pub short : length text ≤ MOST_JOURNAL_BYTES
   pub text_of : text ≡ journal_text file
+
+-- the file is that of some journal text, which is the one told, where one is told
+pub record IsOfJournal (journal : Option (List ℕ)) (file : FileLists) : Type 0 where
+  pub text : List ℕ
+  pub spelled : IsJournalOf text file
+  pub told : IfSome journal (λ bytes. text ≡ bytes)
 
 -- what an audit found: nothing, where the journal is right; else the first that is wrong
 abbrev pub IsAnswer : Program → FileLists → Option Finding → Type 0
@@ -56,10 +53,10 @@ IsAnswer program file (Some finding) =
 -- a journal that was audited against its source
 pub record IsAudited (source journal : Option (List ℕ)) (left : Left) : Type 0 where
   pub program : Program
-  pub accepted : IfSome source (λ text. IsSourceOf text program)
+  pub accepted : IsOfSource source program
   pub file : FileLists
   pub fits : IsFile file
-  pub read : IfSome journal (λ text. IsJournalOf text file)
+  pub read : IsOfJournal journal file
   pub found : Option Finding
   pub answer : IsAnswer program file found
   pub is_left : left ≡ record { output = audit_line found; status = audit_status found; ran = None }

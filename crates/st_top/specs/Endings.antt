@@ -1,5 +1,5 @@
 -- How a call ended: a command was done and its output written, or a refusal was told; and which status comes where.
-use Rattle.std.specs.Prelude.{◌≡◌, ◌≢◌, ℕ, ◌⊎◌, ◌↔◌, Some, None, IsTrue, IsFalse}
+use Rattle.std.specs.Prelude.{◌≡◌, ◌≢◌, ℕ, ◌⊎◌, ◌↔◌, None, IsTrue, IsFalse}
 use Rattle.std.specs.List.{list_any}
 use Rattle.st_events.specs.Terms.{RanLists}
 use Rattle.st_io.specs.Counts.{RoseBy}
@@ -8,8 +8,6 @@ use Rattle.st_report.specs.Status.{is_unfinished, is_fault, is_undecided}
 use Rattle.st_report.specs.declared.statuses.TheConstants.{STATUS_HOLDS, STATUS_CHECK_FAILS, STATUS_UNFINISHED, STATUS_UNDECIDED}
 use Rattle.st_top.specs.Commands.{Told, IsDone, HasCause, IsInputAccepted, IsInputTold}
 use Rattle.st_top.specs.Deeds.{Left}
-use Rattle.st_top.specs.Headline.{IsHeadline}
-use Rattle.st_top.specs.Orders.{Order, order_of}
 use Rattle.st_top.specs.Putting.{IsWritten, IsLinePut}
 use Rattle.st_top.specs.Refusals.{refusal_line, refusal_status}
 use Rattle.st_top.specs.declared.errors.Refusal.{Refusal}
@@ -55,12 +53,6 @@ IsDoneStatus status =
 -- the statuses of a refusal where the words are accepted: 7, 5 and 3
 abbrev pub IsRefusalStatus : ℕ → Type 0
 IsRefusalStatus status = (status ≡ STATUS_NO_MEMORY) ⊎ (status ≡ STATUS_READ_FAULT) ⊎ (status ≡ STATUS_INPUT)
-
--- the words order a run, and the headline holds of it
-pub record HasHeadline (told : Told) (words : Words) (status : ℕ) (ran : RanLists) (before now : SinkState) : Type 0 where
-  pub order : Order
-  pub ordered : order_of told words ≡ Some order
-  pub headline : IsHeadline order status ran before now
 
 -- which status a run has whose output was written whole: 4 exactly where some thread does not come to its end; else 1 exactly where some check
 -- fails or meets a fault; else 8 exactly where some check has no answer

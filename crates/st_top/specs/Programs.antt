@@ -1,9 +1,16 @@
--- What the outputs tell of a program: its names, its places, and how many of each it has.
-use Rattle.std.specs.Prelude.{ℕ, List, ◌++◌, length, map, codes}
+-- The program of a source, and what the outputs tell of it: its names, its places, and how many of each it has.
+use Rattle.std.specs.Prelude.{◌≡◌, ℕ, List, ◌++◌, length, map, codes, Option, IfSome}
 use Rattle.std.specs.Fmt.{decimal}
 use Rattle.st_ast.specs.declared.declarations.Program.{Program}
 use Rattle.st_events.specs.declared.events.Site.{Site}
+use Rattle.st_source.specs.Accepted.{IsSourceOf}
 use Rattle.st_types.specs.Rules.{resolution}
+
+-- the program is that of some text, which is the one told, where one is told
+pub record IsOfSource (source : Option (List ℕ)) (program : Program) : Type 0 where
+  pub text : List ℕ
+  pub spelled : IsSourceOf text program
+  pub told : IfSome source (λ bytes. text ≡ bytes)
 
 -- the names of the threads, in the order of the source
 abbrev pub names_of : Program → List (List ℕ)

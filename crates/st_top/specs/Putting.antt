@@ -1,5 +1,5 @@
 -- What was put into the sink.
-use Rattle.std.specs.Prelude.{◌≡◌, ℕ, ◌⊎◌, List}
+use Rattle.std.specs.Prelude.{◌≡◌, ℕ, ◌⊎◌, List, None}
 use Rattle.st_io.specs.Counts.{RoseBy}
 use Rattle.st_io.specs.Growth.{Grows, GrowsByFront}
 use Rattle.st_io.specs.States.{SinkState}
@@ -24,3 +24,7 @@ IsWritten own text status before now = IsWhole own text status before now ⊎ Is
 pub record IsLinePut (line : List ℕ) (before now : SinkState) : Type 0 where
   pub part : GrowsByFront before.written line now.written
   pub whole : ¬ RoseBy 1 before.faults now.faults → Grows before.written line now.written
+
+-- a sink that takes all, and tells nothing
+abbrev pub untold_sink : SinkState
+untold_sink = record { written = None; faults = 0 }

@@ -2,10 +2,12 @@
 ghost use Rattle.std.specs.Prelude.{◌≡◌, ◌≢◌, ◌≤◌, ◌⊎◌, ◌↔◌, Some, None, IsSome, IfSome};
 ghost use Rattle.st_io.specs.Counts.{RoseBy};
 ghost use Rattle.st_io.specs.States.{GoOn};
-ghost use Rattle.st_top.specs.Commands.{IsInputAccepted};
+ghost use Rattle.st_top.specs.Commands.{IsInputAccepted, ReadsNoFile};
 ghost use Rattle.st_top.specs.Endings.{IsEnded, IsDoneCall, IsRefusedCall, IsDoneStatus, IsRefusalStatus, AreWordsRefused};
-ghost use Rattle.st_top.specs.Endings.{HasHeadline, HasRunStatus, IsRefusedExactly, IsStatusOf, IsComplete};
+ghost use Rattle.st_top.specs.Endings.{HasRunStatus, IsRefusedExactly, IsStatusOf, IsComplete};
+ghost use Rattle.st_top.specs.Headline.{IsHeadline};
 ghost use Rattle.st_top.specs.Orders.{order_of};
+ghost use Rattle.st_top.specs.Putting.{untold_sink};
 ghost use Rattle.st_words.specs.Accepted.{accepted_words, texts, HasFittingNumbers};
 
 use crate::commands::perform;
@@ -42,11 +44,14 @@ pub fn strobe<R: Threads + Wait + Sync, F: Files, S: Sink, P: Pace + Sync>(
 ) -> Outcome
     // The headline, of the words that were accepted.
     ensures headline { IfSome result.ran (λ ran. IfSome (accepted_words (texts words.now)) (λ accepted.
-        HasHeadline (F.state files.old).told accepted result.status ran (S.state out.old) (S.state out.new))) }
+        IfSome (order_of (F.state files.old).told accepted) (λ order.
+        IsHeadline order result.status ran (S.state out.old) (S.state out.new)))) }
     ensures ran { IfSome (accepted_words (texts words.now)) (λ accepted.
         IsSome result.ran ↔ (IsSome (order_of (F.state files.old).told accepted) × IsDoneStatus result.status)) }
 
     // What was done is written, or the line of a refusal, which has its cause.
+    ensures ended { IfSome (accepted_words (texts words.now)) (λ accepted.
+        IsEnded accepted (F.state files.old) (F.state files.new) result (S.state out.old) (S.state out.new)) }
     ensures done { IfSome (accepted_words (texts words.now)) (λ accepted. IsDoneStatus result.status
         → IsDoneCall (F.state files.old).told accepted result (S.state out.old) (S.state out.new)) }
     ensures refused { IfSome (accepted_words (texts words.now)) (λ accepted. IsRefusalStatus result.status
@@ -62,9 +67,10 @@ pub fn strobe<R: Threads + Wait + Sync, F: Files, S: Sink, P: Pace + Sync>(
     ensures complete { IfSome (accepted_words (texts words.now)) (λ accepted. IsComplete accepted (F.state files.old) (F.state files.new)
         result.status (S.state out.old) (S.state out.new)) }
 
-    // What is lent goes on: files tell what they told, and no count fell. With wrong words the files are untouched.
+    // What is lent goes on: files tell what they told, and no count fell. With wrong words, and where the command reads no file,
+    // the files are untouched.
     ensures files { GoOn (F.state files.old) (F.state files.new) }
-    ensures untouched { accepted_words (texts words.now) ≡ None → F.state files.new ≡ F.state files.old }
+    ensures untouched { IfSome (accepted_words (texts words.now)) ReadsNoFile → F.state files.new ≡ F.state files.old }
     ensures sink { (S.state out.old).faults ≤ (S.state out.new).faults }
 {
     answer(alloc, words, files, out)
@@ -84,10 +90,12 @@ pub fn strobe_plain<F: Files, S: Sink>(
 ) -> Outcome
     requires { HasFittingNumbers words.now }
     // The headline.
-    ensures headline { IfSome result.ran (λ ran. HasHeadline (F.state files.old).told words.now result.status ran (S.state out.old) (S.state out.new)) }
+    ensures headline { IfSome result.ran (λ ran. IfSome (order_of (F.state files.old).told words.now) (λ order.
+        IsHeadline order result.status ran (S.state out.old) (S.state out.new))) }
     ensures ran { IsSome result.ran ↔ (IsSome (order_of (F.state files.old).told words.now) × IsDoneStatus result.status) }
 
     // What was done is written, or the line of a refusal, which has its cause.
+    ensures ended { IsEnded words.now (F.state files.old) (F.state files.new) result (S.state out.old) (S.state out.new) }
     ensures done { IsDoneStatus result.status
         → IsDoneCall (F.state files.old).told words.now result (S.state out.old) (S.state out.new) }
     ensures refused { IsRefusalStatus result.status
@@ -101,8 +109,9 @@ pub fn strobe_plain<F: Files, S: Sink>(
     ensures run_status { IfSome result.ran (λ ran. result.status ≢ STATUS_WRITE_FAULT → HasRunStatus result.status ran) }
     ensures complete { IsComplete words.now (F.state files.old) (F.state files.new) result.status (S.state out.old) (S.state out.new) }
 
-    // What is lent goes on: files tell what they told, and no count fell.
+    // What is lent goes on: files tell what they told, and no count fell. Where the command reads no file the files are untouched.
     ensures files { GoOn (F.state files.old) (F.state files.new) }
+    ensures untouched { ReadsNoFile words.now → F.state files.new ≡ F.state files.old }
     ensures sink { (S.state out.old).faults ≤ (S.state out.new).faults }
 {
     do_words(alloc, words, files, out)
@@ -116,6 +125,14 @@ pub fn strobe_on_text<R: Threads + Wait + Sync>(
     words: &[String],
     text: Vec<u8>,
 ) -> Outcome
+    // The headline, of the words that were accepted, and what was done.
+    ensures headline { IfSome result.ran (λ ran. IfSome (accepted_words (texts words.now)) (λ accepted.
+        IfSome (order_of (λ _. Some text.items) accepted) (λ order. IsHeadline order result.status ran untold_sink untold_sink))) }
+    ensures done { IfSome (accepted_words (texts words.now)) (λ accepted. IsDoneStatus result.status
+        → IsDoneCall (λ _. Some text.items) accepted result untold_sink untold_sink) }
+    ensures words_refused { accepted_words (texts words.now) ≡ None → AreWordsRefused result untold_sink untold_sink }
+
+    // The cause of each status.
     ensures words { result.status ≡ STATUS_WORDS → accepted_words (texts words.now) ≡ None }
     ensures input { IfSome (accepted_words (texts words.now)) (λ accepted. IsRefusedExactly (λ _. Some text.items) accepted result.status) }
     ensures no_read_fault { result.status ≢ STATUS_READ_FAULT }
@@ -137,7 +154,7 @@ fn answer<F: Files, S: Sink>(alloc: Global, words: &[String], files: &mut F, out
     ensures ended { IfSome (accepted_words (texts words.now)) (λ accepted. IsEnded accepted (F.state files.old) (F.state files.new) result (S.state out.old) (S.state out.new)) }
     ensures words_refused { accepted_words (texts words.now) ≡ None → AreWordsRefused result (S.state out.old) (S.state out.new) }
     ensures files { GoOn (F.state files.old) (F.state files.new) }
-    ensures untouched { accepted_words (texts words.now) ≡ None → F.state files.new ≡ F.state files.old }
+    ensures untouched { IfSome (accepted_words (texts words.now)) ReadsNoFile → F.state files.new ≡ F.state files.old }
     ensures sink { (S.state out.old).faults ≤ (S.state out.new).faults }
 {
     match read_words(alloc, words) {
@@ -152,6 +169,7 @@ fn do_words<F: Files, S: Sink>(alloc: Global, words: &Words, files: &mut F, out:
     requires { HasFittingNumbers words.now }
     ensures ended { IsEnded words.now (F.state files.old) (F.state files.new) result (S.state out.old) (S.state out.new) }
     ensures files { GoOn (F.state files.old) (F.state files.new) }
+    ensures untouched { ReadsNoFile words.now → F.state files.new ≡ F.state files.old }
     ensures sink { (S.state out.old).faults ≤ (S.state out.new).faults }
 {
     match perform(alloc, words, files) {

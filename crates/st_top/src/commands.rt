@@ -3,7 +3,7 @@ ghost use Rattle.std.specs.Prelude.{◌≡◌, ◌≤◌, IfOk, IfErr};
 ghost use Rattle.st_gen.specs.Source.{source_text};
 ghost use Rattle.st_io.specs.States.{GoOn};
 ghost use Rattle.st_top.specs.Causes.{IsSourceCause, IsTextCause};
-ghost use Rattle.st_top.specs.Commands.{IsDone, HasCause};
+ghost use Rattle.st_top.specs.Commands.{IsDone, HasCause, ReadsNoFile};
 ghost use Rattle.st_top.specs.Deeds.{IsRunAs, IsChecked, IsGenerated};
 ghost use Rattle.st_top.specs.Orders.{run_order, demo_order};
 ghost use Rattle.st_top.specs.declared.errors.Refusal.TheVariants as refused;
@@ -34,6 +34,7 @@ pub(crate) fn perform<F: Files>(
     ensures done { IfOk result (IsDone (F.state files.old).told words.now) }
     ensures cause { IfErr result (HasCause words.now (F.state files.old) (F.state files.new)) }
     ensures files { GoOn (F.state files.old) (F.state files.new) }
+    ensures untouched { ReadsNoFile words.now → F.state files.new ≡ F.state files.old }
 {
     match words {
         Words::Run(call) => run_file(alloc, call, files),

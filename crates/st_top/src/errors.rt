@@ -9,7 +9,7 @@ use st_source::{SourceError, refusal_line};
 use std::alloc::Global;
 
 /// Why a call comes to nothing. One line is written then.
-#[derive(Clone, Copy, Debug, PartialEq, Eq)]
+#[derive(Clone, Copy)]
 pub enum Refusal {
     /// The words are none that the program accepts.
     Words,

@@ -4,7 +4,7 @@ ghost use Rattle.st_top.specs.Programs.{names_of, places_of, counts_line, accept
 
 use st_ast::Thread;
 use st_events::{NoMemory, Site};
-use st_program::Check;
+use st_resolved::Check;
 use st_types::{Counts, Typed};
 use std::alloc::Global;
 

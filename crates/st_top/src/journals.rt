@@ -1,10 +1,10 @@
 //! From a file to a journal, and the audit of one.
-ghost use Rattle.std.specs.Prelude.{◌≡◌, ◌≤◌, ℕ, List, Option, length, IfOk, IfErr, IfSome};
+ghost use Rattle.std.specs.Prelude.{◌≤◌, ℕ, List, Option, length, IfOk, IfErr};
 ghost use Rattle.st_io.specs.States.{GoOn};
 ghost use Rattle.st_journal.specs.Format.{IsFile};
-ghost use Rattle.st_source.specs.Accepted.{IsSourceOf};
 ghost use Rattle.st_top.specs.Causes.{IsJournalCause, IsJournalTextCause};
-ghost use Rattle.st_top.specs.Deeds.{IsAudited, IsJournalOf};
+ghost use Rattle.st_top.specs.Deeds.{IsAudited, IsJournalOf, IsOfJournal};
+ghost use Rattle.st_top.specs.Programs.{IsOfSource};
 
 use crate::errors::Refusal;
 use crate::left::Left;
@@ -25,7 +25,7 @@ pub(crate) fn read_journal<F: Files>(
     name: &str,
 ) -> Result<JournalFile, Refusal>
     ensures fits { IfOk result IsFile }
-    ensures read { IfOk result (λ file. IfSome ((F.state files.old).told name.now) (λ text. IsJournalOf text file)) }
+    ensures read { IfOk result (IsOfJournal ((F.state files.old).told name.now)) }
     ensures cause { IfErr result (IsJournalCause ((F.state files.old).told name.now) (F.state files.old) (F.state files.new)) }
     ensures files { GoOn (F.state files.old) (F.state files.new) }
 {
@@ -62,8 +62,8 @@ pub(crate) fn audit_journal(
 ) -> Result<Left, NoMemory>
     requires { IsFile file.now }
     ensures { IfOk result (λ left. (source journal : Option (List ℕ))
-        → IfSome source (λ text. IsSourceOf text typed.now.program)
-        → IfSome journal (λ text. IsJournalOf text file.now)
+        → IsOfSource source typed.now.program
+        → IsOfJournal journal file.now
         → IsAudited source journal left) }
 {
     let _numbers = typed.resolved();

@@ -4,7 +4,7 @@ use st_events::Ran;
 use std::marker::Model;
 
 /// What a command leaves that was done. Contracts see lists.
-#[derive(Debug, Drop)]
+#[derive(Drop)]
 pub(crate) struct Left {
     /// All that it writes.
     pub(crate) output: Vec<u8>,

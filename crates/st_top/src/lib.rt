@@ -21,6 +21,7 @@ pub use calls::{strobe, strobe_on_text, strobe_plain};
 pub use errors::Refusal;
 pub use limits::MOST_JOURNAL_BYTES;
 pub use outcomes::Outcome;
+pub use outputs::{json_of, report_of};
 pub use statuses::{
     STATUS_INPUT, STATUS_NO_MEMORY, STATUS_READ_FAULT, STATUS_WORDS, STATUS_WRITE_FAULT,
 };

@@ -1,4 +1,4 @@
-//! The sizes of a demonstration, and how long a journal may be.
+//! The sizes of a demonstration, the seeds, and how long a journal may be.
 
 /// The most bytes of a journal file that is audited.
 pub const MOST_JOURNAL_BYTES: u32 = 67_108_864;
@@ -18,3 +18,15 @@ pub(crate) const DEMO_COPIES: u32 = 65_536;
 pub(crate) const DEMO_EVENTS: u32 = 1_048_576;
 /// The budget of each check of a demonstration.
 pub(crate) const DEMO_CALLS: u32 = 1_000_000;
+
+// Each number once more, since the contracts take it from here.
+const _: () = prove!(
+    MOST_JOURNAL_BYTES == 67_108_864
+        && USUAL_SEED == 0
+        && DEMO_SEED == 0
+        && DEMO_LANES == 8
+        && DEMO_OBJECTS == 16_384
+        && DEMO_COPIES == 65_536
+        && DEMO_EVENTS == 1_048_576
+        && DEMO_CALLS == 1_000_000
+);

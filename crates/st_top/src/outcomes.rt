@@ -3,7 +3,7 @@
 use st_events::Ran;
 
 /// What a call of the program leaves.
-#[derive(Debug, Drop)]
+#[derive(Drop)]
 pub struct Outcome {
     /// How the call ended: 0, 4, 1 or 8 where the output was written whole, of which a run has the first that applies of 4
     /// (a thread that does not come to its end), 1 (a check that fails or faults), 8 (a check without an answer) and 0, and

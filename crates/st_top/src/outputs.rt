@@ -4,7 +4,10 @@ ghost use Rattle.std.specs.List.{All};
 ghost use Rattle.st_audit.specs.declared.findings.Finding.TheVariants as found;
 ghost use Rattle.st_events.specs.Sizes.{AreWithinLimits};
 ghost use Rattle.st_journal.specs.Format.{HasUsedArgs};
+ghost use Rattle.st_report.specs.Json.{json_text};
+ghost use Rattle.st_report.specs.Report.{report_text};
 ghost use Rattle.st_top.specs.Outputs.{text_in, finding_line};
+ghost use Rattle.st_top.specs.Programs.{names_of, places_of};
 
 use crate::heads::{collect_names, collect_places};
 use st_audit::Finding;
@@ -31,18 +34,28 @@ pub(crate) fn make_output(
     ensures { IfOk result (λ text. text.items ≡ text_in form typed.now.program sizes.now ran.now) }
 {
     match form {
-        Form::Text => {
-            let names = collect_names(alloc, typed)?;
-            let places = collect_places(alloc, typed)?;
-            report(alloc, &names, &places, ran)
-        }
-        Form::Json => {
-            let names = collect_names(alloc, typed)?;
-            let places = collect_places(alloc, typed)?;
-            report_json(alloc, &names, &places, ran)
-        }
+        Form::Text => report_of(alloc, typed, ran),
+        Form::Json => json_of(alloc, typed, ran),
         Form::Journal => write(alloc, sizes, &ran.journal, &ran.verdicts),
     }
+}
+
+/// The report of a run of a typed program, as lines.
+pub fn report_of(alloc: Global, typed: &Typed, ran: &Ran) -> Result<Vec<u8>, NoMemory>
+    ensures { IfOk result (λ text. text.items ≡ report_text (names_of typed.now.program) (places_of typed.now.program) ran.now) }
+{
+    let names = collect_names(alloc, typed)?;
+    let places = collect_places(alloc, typed)?;
+    report(alloc, &names, &places, ran)
+}
+
+/// The report of a run of a typed program, as one line of JSON.
+pub fn json_of(alloc: Global, typed: &Typed, ran: &Ran) -> Result<Vec<u8>, NoMemory>
+    ensures { IfOk result (λ text. text.items ≡ json_text (names_of typed.now.program) (places_of typed.now.program) ran.now) }
+{
+    let names = collect_names(alloc, typed)?;
+    let places = collect_places(alloc, typed)?;
+    report_json(alloc, &names, &places, ran)
 }
 
 /// The line of an audit that found nothing.

@@ -1,14 +1,13 @@
 //! Runs, as the words ask for them.
-ghost use Rattle.std.specs.Prelude.{◌≡◌, ◌<◌, ◌^◌, ℕ, List, Option, length, unwrap_or, IfOk, IfSome};
+ghost use Rattle.std.specs.Prelude.{◌≡◌, ◌<◌, ◌^◌, ℕ, List, Option, length, unwrap_or, IfOk};
 ghost use Rattle.std.specs.List.{All};
 ghost use Rattle.st_events.specs.Sizes.{AreWithinLimits};
 ghost use Rattle.st_journal.specs.Format.{HasUsedArgs};
-ghost use Rattle.st_schedule.specs.Runs.{scheduled_run};
-ghost use Rattle.st_source.specs.Accepted.{IsSourceOf};
-ghost use Rattle.st_threads.specs.Right.{IsRightRun};
+ghost use Rattle.st_run_meaning.specs.Runs.{scheduled_run};
+ghost use Rattle.st_thread_meaning.specs.Right.{IsRightRun};
 ghost use Rattle.st_top.specs.Deeds.{IsRunAs};
 ghost use Rattle.st_top.specs.Orders.{sizes_in, demo_sizes, run_order, demo_order};
-ghost use Rattle.st_top.specs.Programs.{mutators_of};
+ghost use Rattle.st_top.specs.Programs.{IsOfSource, mutators_of};
 ghost use Rattle.st_types.specs.Rules.{resolution, shape_of};
 ghost use Rattle.st_words.specs.Accepted.{HasFittingNumbers};
 ghost use Rattle.st_words.specs.declared.words.Words.TheVariants as words_of;
@@ -29,7 +28,7 @@ use std::alloc::Global;
 pub(crate) fn run_as_asked(alloc: Global, typed: &Typed, call: &RunWords) -> Result<Left, NoMemory>
     requires { HasFittingNumbers (words_of.Run call.now) }
     ensures { IfOk result (λ left. (source : Option (List ℕ))
-        → IfSome source (λ text. IsSourceOf text typed.now.program)
+        → IsOfSource source typed.now.program
         → IsRunAs (run_order source call.now) left) }
 {
     let sizes = choose_sizes(call, typed);
@@ -47,7 +46,7 @@ pub(crate) fn run_as_asked(alloc: Global, typed: &Typed, call: &RunWords) -> Res
 /// What is left of a demonstration.
 pub(crate) fn run_as_demo(alloc: Global, typed: &Typed) -> Result<Left, NoMemory>
     ensures { IfOk result (λ left. (n : ℕ)
-        → IfSome (demo_order n).source (λ text. IsSourceOf text typed.now.program)
+        → IsOfSource (demo_order n).source typed.now.program
         → IsRunAs (demo_order n) left) }
 {
     let sizes = choose_demo_sizes(typed);

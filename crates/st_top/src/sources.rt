@@ -1,8 +1,9 @@
 //! From a file, or from a text, to a program.
-ghost use Rattle.std.specs.Prelude.{◌≡◌, ℕ, List, IfOk, IfErr, IfSome};
+ghost use Rattle.std.specs.Prelude.{IfOk, IfErr};
 ghost use Rattle.st_io.specs.States.{GoOn};
 ghost use Rattle.st_source.specs.Accepted.{IsSourceOf};
 ghost use Rattle.st_top.specs.Causes.{IsSourceCause, IsTextCause};
+ghost use Rattle.st_top.specs.Programs.{IsOfSource};
 
 use crate::errors::Refusal;
 use st_io::{Files, FilesFault};
@@ -17,7 +18,7 @@ pub(crate) fn read_program<F: Files>(
     files: &mut F,
     name: &str,
 ) -> Result<Typed, Refusal>
-    ensures accepted { IfOk result (λ typed. IfSome ((F.state files.old).told name.now) (λ text. IsSourceOf text typed.program)) }
+    ensures accepted { IfOk result (λ typed. IsOfSource ((F.state files.old).told name.now) typed.program) }
     ensures cause { IfErr result (IsSourceCause ((F.state files.old).told name.now) (F.state files.old) (F.state files.new)) }
     ensures files { GoOn (F.state files.old) (F.state files.new) }
 {

@@ -2,8 +2,8 @@
 use Rattle.std.proofs.Common.{◌≡◌, ℕ, ◌+◌, ◌<◌, ◌≤◌, List, [], ◌∷◌, ◌++◌, map, length, drop, get_or}
 use Rattle.std.proofs.Common.{Ok, Err, refl, ap, add-one, drop-cons, suc}
 use Rattle.std.proofs.lemmas.List.{drop_all}
-use Rattle.st_program.specs.Terms.{Command, Block, no_commands, command_then}
-use Rattle.st_program.specs.Views.{commands_of}
+use Rattle.st_resolved.specs.Terms.{Command, Block, no_commands, command_then}
+use Rattle.st_resolved.specs.Views.{commands_of}
 use Rattle.st_types.specs.declared.errors.TypeError.{TypeError}
 use Rattle.st_types.specs.Checked.{Checked, ◌>>=◌}
 use Rattle.st_types.specs.Statements.{Reached}

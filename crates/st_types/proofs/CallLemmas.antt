@@ -3,19 +3,19 @@ use Rattle.std.proofs.Common.{◌≡◌, ℕ, List, [], ◌∷◌, map, slice_ge
 use Rattle.st_events.specs.declared.events.Site.{Site}
 use Rattle.st_ast.specs.declared.declarations.Pred.{Pred}
 use Rattle.st_ast.specs.declared.expressions.Expr.TheOpen.{Expr-F}
-use Rattle.st_program.specs.Terms.{Term, a_call, Command, a_proc_call}
-use Rattle.st_program.specs.Views.{term_of, term_layer, args_of, command_of, command_layer}
-use Rattle.st_program.specs.declared.expressions.Expr.{Expr}
-use Rattle.st_program.specs.declared.expressions.Expr.TheVariants.{Call, rolls-Call}
-use Rattle.st_program.specs.declared.expressions.Expr.TheFolds.{fold-roll-Expr}
-use Rattle.st_program.specs.declared.expressions.Expr.TheOpen as layers
+use Rattle.st_resolved.specs.Terms.{Term, a_call, Command, a_proc_call}
+use Rattle.st_resolved.specs.Views.{term_of, term_layer, args_of, command_of, command_layer}
+use Rattle.st_resolved.specs.declared.expressions.Expr.{Expr}
+use Rattle.st_resolved.specs.declared.expressions.Expr.TheVariants.{Call, rolls-Call}
+use Rattle.st_resolved.specs.declared.expressions.Expr.TheFolds.{fold-roll-Expr}
+use Rattle.st_resolved.specs.declared.expressions.Expr.TheOpen as layers
 use Rattle.st_ast.specs.declared.declarations.Param.{Param}
 use Rattle.st_types.specs.declared.kinds.Found.{Found}
 use Rattle.st_ast.specs.declared.declarations.Program.{Program}
-use Rattle.st_program.specs.declared.statements.Stmt.{Stmt}
-use Rattle.st_program.specs.declared.statements.Stmt.TheVariants as stmts
-use Rattle.st_program.specs.declared.statements.Stmt.TheOpen as statement_layers
-use Rattle.st_program.specs.declared.statements.Stmt.TheFolds.{fold-roll-Stmt}
+use Rattle.st_resolved.specs.declared.statements.Stmt.{Stmt}
+use Rattle.st_resolved.specs.declared.statements.Stmt.TheVariants as stmts
+use Rattle.st_resolved.specs.declared.statements.Stmt.TheOpen as statement_layers
+use Rattle.st_resolved.specs.declared.statements.Stmt.TheFolds.{fold-roll-Stmt}
 use Rattle.st_types.specs.Statements.{asks_proc}
 use Rattle.st_types.specs.Stepwise.{proc_command}
 use Rattle.st_types.specs.declared.errors.TypeError.{TypeError}

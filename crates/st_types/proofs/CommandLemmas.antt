@@ -24,9 +24,9 @@ use Rattle.st_events.specs.declared.shapes.Kind.{Kind}
 use Rattle.st_events.specs.declared.shapes.Kind.TheVariants as kinds
 use Rattle.st_events.specs.Kind.{IsDeclaredKind}
 use Rattle.st_events.specs.Shape.{ShapeLists, kinds_of}
-use Rattle.st_program.specs.Kinds.{Setting, HasKind, StoresKind, GivesKind}
-use Rattle.st_program.specs.Terms.{Term, from_term, from_new, Program, an_if, a_while, a_launch}
-use Rattle.st_program.specs.WellFormed as formed
+use Rattle.st_resolved.specs.Kinds.{Setting, HasKind, StoresKind, GivesKind}
+use Rattle.st_resolved.specs.Terms.{Term, from_term, from_new, Program, an_if, a_while, a_launch}
+use Rattle.st_resolved.specs.WellFormed as formed
 use Rattle.st_types.specs.declared.errors.TypeError.TheVariants.{UnknownName, NotHere}
 use Rattle.st_types.specs.declared.kinds.Found.{Found}
 use Rattle.st_types.specs.declared.kinds.Found.TheVariants.{Unknown, Null, Known}

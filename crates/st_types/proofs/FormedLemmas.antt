@@ -18,12 +18,12 @@ use Rattle.st_events.specs.declared.shapes.TheConstants.{MOST_ARGS}
 use Rattle.st_events.specs.Kind.{IsDeclaredKind}
 use Rattle.st_events.specs.Shape.{ShapeLists}
 use Rattle.st_events.specs.Shape as shapes
-use Rattle.st_program.specs.declared.limits.TheConstants.{MOST_PARAMS}
-use Rattle.st_program.specs.Kinds.{Setting, HasKind}
-use Rattle.st_program.specs.Terms.{Routine, Program}
-use Rattle.st_program.specs.Views.{check_of, program_of}
-use Rattle.st_program.specs.WellFormed as formed
-use Rattle.st_program.specs.WellFormed.{IsWellFormed, IsRightPredicate, IsRightRoutine, AreRightChecks}
+use Rattle.st_resolved.specs.declared.limits.TheConstants.{MOST_PARAMS}
+use Rattle.st_resolved.specs.Kinds.{Setting, HasKind}
+use Rattle.st_resolved.specs.Terms.{Routine, Program}
+use Rattle.st_resolved.specs.Views.{check_of, program_of}
+use Rattle.st_resolved.specs.WellFormed as formed
+use Rattle.st_resolved.specs.WellFormed.{IsWellFormed, IsRightPredicate, IsRightRoutine, AreRightChecks}
 use Rattle.st_types.specs.declared.kinds.Found.{Found}
 use Rattle.st_types.specs.declared.kinds.Found.TheVariants.{Known}
 use Rattle.st_types.specs.Judged.{judged}

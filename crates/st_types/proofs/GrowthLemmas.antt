@@ -4,7 +4,7 @@ use Rattle.std.proofs.Common.{◌∙◌, subst, arith, append-nil}
 use Rattle.std.proofs.lemmas.List.{length-map, take_all, drop_all}
 use Rattle.st_ast.specs.declared.declarations.Program.{Program}
 use Rattle.st_ast.specs.declared.statements.Stmt as trees
-use Rattle.st_program.specs.declared.statements.Stmt.{Stmt}
+use Rattle.st_resolved.specs.declared.statements.Stmt.{Stmt}
 use Rattle.st_types.specs.declared.walks.Walk.{Walk}
 use Rattle.st_types.specs.Names.{Local}
 use Rattle.st_types.specs.Statements.{Reached, walk, walk_all, walk_block, closed}

@@ -10,6 +10,7 @@ pub mod ForgetLemmas
 pub mod FormedLemmas
 pub mod GrowthLemmas
 pub mod JudgedLemmas
+pub mod KnownLemmas
 pub mod OutcomeLemmas
 pub mod PredicateLemmas
 pub mod RoutineLemmas

@@ -5,10 +5,10 @@ use Rattle.std.specs.Prelude.{IfOk, IfErr}
 use Rattle.std.proofs.lemmas.List.{length-map, map-append, take_more}
 use Rattle.st_ast.specs.declared.declarations.Program.{Program}
 use Rattle.st_events.specs.declared.shapes.TheConstants.{MOST_CHECKS}
-use Rattle.st_program.specs.Terms.{Predicate}
-use Rattle.st_program.specs.Views.{predicate_of, routine_of}
-use Rattle.st_program.specs.declared.programs.Body.{Body}
-use Rattle.st_program.specs.declared.programs.Pred.{Pred}
+use Rattle.st_resolved.specs.Terms.{Predicate}
+use Rattle.st_resolved.specs.Views.{predicate_of, routine_of}
+use Rattle.st_resolved.specs.declared.programs.Body.{Body}
+use Rattle.st_resolved.specs.declared.programs.Pred.{Pred}
 use Rattle.st_types.specs.declared.checking.Bodies.{Bodies}
 use Rattle.st_types.specs.declared.checking.Numbered.{Numbered}
 use Rattle.st_types.specs.declared.errors.TypeError.{TypeError}

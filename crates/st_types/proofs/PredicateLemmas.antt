@@ -5,7 +5,7 @@ use Rattle.st_ast.specs.declared.declarations.Param.{Param}
 use Rattle.st_ast.specs.declared.declarations.Pred.{Pred}
 use Rattle.st_ast.specs.declared.declarations.Program.{Program}
 use Rattle.st_events.specs.declared.shapes.Kind.{Kind}
-use Rattle.st_program.specs.Terms.{Term}
+use Rattle.st_resolved.specs.Terms.{Term}
 use Rattle.st_types.specs.declared.errors.TypeError.{TypeError}
 use Rattle.st_types.specs.declared.kinds.Found.{Found}
 use Rattle.st_types.specs.declared.scopes.Local as code_local

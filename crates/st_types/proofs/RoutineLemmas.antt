@@ -9,16 +9,16 @@ use Rattle.st_ast.specs.declared.declarations.Program.{Program}
 use Rattle.st_ast.specs.declared.declarations.Param.{Param}
 use Rattle.st_ast.specs.declared.statements.Stmt as trees
 use Rattle.st_events.specs.declared.shapes.Kind.{Kind}
-use Rattle.st_program.specs.Terms.{Routine}
-use Rattle.st_program.specs.Views.{block_of}
-use Rattle.st_program.specs.declared.statements.Stmt.{Stmt}
+use Rattle.st_resolved.specs.Terms.{Routine}
+use Rattle.st_resolved.specs.Views.{block_of}
+use Rattle.st_resolved.specs.declared.statements.Stmt.{Stmt}
 use Rattle.st_types.specs.declared.errors.TypeError.{TypeError}
 use Rattle.st_types.specs.declared.scopes.Local as code_local
 use Rattle.st_types.specs.declared.walks.Launched as code_launched
 use Rattle.st_types.specs.declared.walks.Walk.{Walk}
 use Rattle.st_types.specs.Checked.{Checked, verdict, Fails}
-use Rattle.st_program.specs.Views.{routine_of}
-use Rattle.st_program.specs.declared.programs.Body.{Body}
+use Rattle.st_resolved.specs.Views.{routine_of}
+use Rattle.st_resolved.specs.declared.programs.Body.{Body}
 use Rattle.st_types.specs.Limits.{HasRoomFor, proc_tally, thread_tally}
 use Rattle.st_types.specs.Names.{Local}
 use Rattle.st_types.specs.Routines.{Routed, RoutedAll, routed, routed_all, routed_at, routed_all_at}

@@ -14,8 +14,8 @@ use Rattle.st_ast.specs.declared.declarations.Proc.{Proc}
 use Rattle.st_ast.specs.declared.declarations.Program as trees
 use Rattle.st_events.specs.declared.shapes.Kind.{Kind}
 use Rattle.st_events.specs.Shape.{ShapeLists, kinds_of}
-use Rattle.st_program.specs.Terms.{Predicate, Routine, Program}
-use Rattle.st_program.specs.WellFormed as formed
+use Rattle.st_resolved.specs.Terms.{Predicate, Routine, Program}
+use Rattle.st_resolved.specs.WellFormed as formed
 use Rattle.st_types.specs.declared.kinds.Found.{Found}
 use Rattle.st_types.specs.declared.kinds.Found.TheVariants.{Known}
 use Rattle.st_types.specs.declared.names.Named.{Named}

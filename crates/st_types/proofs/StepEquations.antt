@@ -9,16 +9,16 @@ use Rattle.st_ast.specs.declared.statements.Stmt.TheVariants as stmts
 use Rattle.st_ast.specs.declared.statements.Stmt.TheOpen.{Stmt-F}
 use Rattle.st_ast.specs.declared.statements.Stmt.TheFolds.{fold-roll-Stmt}
 use Rattle.std.proofs.Common.{Err}
-use Rattle.st_program.specs.Terms.{Command, an_if, no_commands}
-use Rattle.st_program.specs.Views.{command_of, block_of}
-use Rattle.st_program.specs.declared.statements.Stmt as code
+use Rattle.st_resolved.specs.Terms.{Command, an_if, no_commands}
+use Rattle.st_resolved.specs.Views.{command_of, block_of}
+use Rattle.st_resolved.specs.declared.statements.Stmt as code
 use Rattle.st_types.specs.declared.errors.TypeError.TheVariants.{Memory, UnknownName, Twice, Mismatch, WrongCount, NotPure, NotHere}
 use Rattle.st_types.specs.declared.walks.Walk.{Walk}
 use Rattle.st_types.specs.Checked.{Checked, Gives}
 use Rattle.std.proofs.Common.{true, subst}
 use Rattle.std.proofs.lemmas.List.{length-map}
 use Rattle.st_events.specs.declared.shapes.Kind.{Kind}
-use Rattle.st_program.specs.Terms.{Term, a_launch}
+use Rattle.st_resolved.specs.Terms.{Term, a_launch}
 use Rattle.st_types.specs.declared.scopes.Local as code_local
 use Rattle.st_types.specs.Names.{Local}
 use Rattle.st_types.specs.Nodes.{Seen}

@@ -17,9 +17,9 @@ use Rattle.st_events.specs.declared.events.Site.{Site}
 use Rattle.st_events.specs.declared.shapes.Kind.{Kind}
 use Rattle.st_events.specs.declared.shapes.Kind.TheVariants as kinds
 use Rattle.st_events.specs.Shape.{kinds_of}
-use Rattle.st_program.specs.Kinds.{Setting, HasKind, HaveKinds}
-use Rattle.st_program.specs.Terms.{Term, a_local, a_shared, a_field, a_call, a_cond, Predicate}
-use Rattle.st_program.specs.Views.{terms_of}
+use Rattle.st_resolved.specs.Kinds.{Setting, HasKind, HaveKinds}
+use Rattle.st_resolved.specs.Terms.{Term, a_local, a_shared, a_field, a_call, a_cond, Predicate}
+use Rattle.st_resolved.specs.Views.{terms_of}
 use Rattle.st_types.specs.declared.errors.TypeError.{TypeError}
 use Rattle.st_types.specs.declared.kinds.Found.{Found}
 use Rattle.st_types.specs.declared.kinds.Found.TheVariants.{Unknown, Null, Known}

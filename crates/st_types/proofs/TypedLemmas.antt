@@ -4,7 +4,7 @@ use Rattle.std.proofs.lemmas.List.{length-map}
 use Rattle.st_ast.specs.declared.declarations.Program.{Program}
 use Rattle.st_events.specs.declared.shapes.TheConstants.{MOST_CHECKS}
 use Rattle.st_events.specs.Shape as shapes
-use Rattle.st_program.specs.Views.{check_of}
+use Rattle.st_resolved.specs.Views.{check_of}
 use Rattle.st_types.specs.declared.checking.Numbered.{Numbered}
 use Rattle.st_types.specs.Checked.{verdict}
 use Rattle.st_types.specs.Limits.{IsWithinLimits}

@@ -10,8 +10,8 @@ use Rattle.st_ast.specs.declared.statements.Stmt.TheViews.{roll-Stmt}
 use Rattle.st_ast.specs.declared.statements.Stmt.TheFolds.{fold-roll-Stmt, ind-Stmt, map-Stmt}
 use Rattle.st_ast.specs.declared.statements.Value.{Value}
 use Rattle.st_ast.specs.declared.statements.Value.TheVariants as values
-use Rattle.st_program.specs.Terms.{from_term, a_put, a_set, a_proc_call, an_if, a_while, Command, command_then, a_launch}
-use Rattle.st_program.specs.Views.{terms_of}
+use Rattle.st_resolved.specs.Terms.{from_term, a_put, a_set, a_proc_call, an_if, a_while, Command, command_then, a_launch}
+use Rattle.st_resolved.specs.Views.{terms_of}
 use Rattle.st_types.specs.declared.errors.TypeError.{TypeError}
 use Rattle.st_types.specs.Checked.{Checked, verdict, ◌>>=◌}
 use Rattle.st_types.specs.Judged.{judged, typed, each_of, in_order}

@@ -3,7 +3,7 @@ use Rattle.std.specs.Prelude.{◌≡◌, ◌+◌, ◌≤◌, Bool, true, ◌&&�
 use Rattle.std.specs.declared.alloc.Global.{Global}
 use Rattle.st_events.specs.declared.shapes.TheConstants.{MOST_CHECKS, MOST_ARGS}
 use Rattle.st_events.specs.declared.limits.TheConstants.{MOST_MUTATORS}
-use Rattle.st_program.specs.declared.limits.TheConstants.{MOST_PARAMS, MOST_LOCALS}
+use Rattle.st_resolved.specs.declared.limits.TheConstants.{MOST_PARAMS, MOST_LOCALS}
 use Rattle.st_lex.specs.Spellings.{is_name}
 use Rattle.st_ast.specs.declared.declarations.Param.{Param}
 use Rattle.st_ast.specs.declared.declarations.Pred.{Pred}

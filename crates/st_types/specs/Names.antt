@@ -5,7 +5,7 @@ use Rattle.std.specs.Option.{option_and_then}
 use Rattle.std.specs.Str.{bytes_eq}
 use Rattle.st_events.specs.declared.shapes.Kind.TheVariants as kinds
 use Rattle.st_events.specs.declared.shapes.TheConstants.{MOST_FIELDS}
-use Rattle.st_program.specs.declared.limits.TheConstants.{MOST_PREDS, MOST_PROCS}
+use Rattle.st_resolved.specs.declared.limits.TheConstants.{MOST_PREDS, MOST_PROCS}
 use Rattle.st_ast.specs.declared.declarations.Program.{Program}
 use Rattle.st_ast.specs.declared.declarations.Class.{Class}
 use Rattle.st_ast.specs.declared.declarations.Field.{Field}

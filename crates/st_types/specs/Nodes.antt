@@ -8,9 +8,9 @@ use Rattle.st_ast.specs.declared.declarations.Pred.{Pred}
 use Rattle.st_ast.specs.declared.expressions.Expr.TheOpen.{Expr-F}
 use Rattle.st_ast.specs.declared.operators.Op.{Op}
 use Rattle.st_ast.specs.declared.operators.Op.TheVariants as op
-use Rattle.st_program.specs.declared.expressions.Operator.TheVariants as operator
-use Rattle.st_program.specs.Terms.{Term, a_number, a_truth, a_null, a_local, a_shared, a_field, a_not, a_minus, a_binary, a_both, an_either, a_cond, a_call}
-use Rattle.st_program.specs.Views.{terms_of}
+use Rattle.st_resolved.specs.declared.expressions.Operator.TheVariants as operator
+use Rattle.st_resolved.specs.Terms.{Term, a_number, a_truth, a_null, a_local, a_shared, a_field, a_not, a_minus, a_binary, a_both, an_either, a_cond, a_call}
+use Rattle.st_resolved.specs.Views.{terms_of}
 use Rattle.st_types.specs.declared.errors.TypeError.{TypeError}
 use Rattle.st_types.specs.declared.errors.TypeError.TheVariants.{UnknownName, Mismatch, WrongCount, NotPure, NotHere}
 use Rattle.st_types.specs.declared.errors.Wanted.TheVariants as wanted

@@ -2,9 +2,9 @@
 use Rattle.std.specs.Prelude.{◌≡◌, List, ◌∷◌, ◌++◌, map}
 use Rattle.st_events.specs.Shape.{ShapeLists}
 use Rattle.st_ast.specs.declared.declarations.Program as trees
-use Rattle.st_program.specs.Terms.{Routine, Program}
-use Rattle.st_program.specs.Views.{predicate_of, routine_of, program_of}
-use Rattle.st_program.specs.declared.programs.Pred.{Pred}
+use Rattle.st_resolved.specs.Terms.{Routine, Program}
+use Rattle.st_resolved.specs.Views.{predicate_of, routine_of, program_of}
+use Rattle.st_resolved.specs.declared.programs.Pred.{Pred}
 use Rattle.st_types.specs.declared.checking.Bodies.{Bodies}
 use Rattle.st_types.specs.declared.checking.Numbered.{Numbered}
 use Rattle.st_types.specs.declared.errors.TypeError.{TypeError}

@@ -1,9 +1,9 @@
 -- Procedures and threads, walked up to the first fault: themselves with numbers, and the check statements so far.
 use Rattle.std.specs.Prelude.{List, map, Vec}
 use Rattle.std.specs.declared.alloc.Global.{Global}
-use Rattle.st_program.specs.Terms.{Routine}
-use Rattle.st_program.specs.Views.{routine_of}
-use Rattle.st_program.specs.declared.programs.Body.{Body}
+use Rattle.st_resolved.specs.Terms.{Routine}
+use Rattle.st_resolved.specs.Views.{routine_of}
+use Rattle.st_resolved.specs.declared.programs.Body.{Body}
 use Rattle.st_types.specs.declared.walks.Launched as code_launched
 use Rattle.st_types.specs.Checked.{Checked, verdict}
 use Rattle.st_types.specs.Rules.{WalkedRoutine, WalkedRoutines}

@@ -12,7 +12,7 @@ use Rattle.st_ast.specs.declared.declarations.Pred.{Pred}
 use Rattle.st_ast.specs.declared.declarations.Proc.{Proc}
 use Rattle.st_ast.specs.declared.declarations.Thread.{Thread}
 use Rattle.st_ast.specs.declared.statements.Stmt.{Stmt}
-use Rattle.st_program.specs.Terms.{Predicate, Routine, Program}
+use Rattle.st_resolved.specs.Terms.{Predicate, Routine, Program}
 use Rattle.st_types.specs.declared.errors.TypeError.{TypeError}
 use Rattle.st_types.specs.Judged.{judged, in_order}
 use Rattle.st_types.specs.Kinds.{asks}

@@ -1,7 +1,7 @@
 -- What an expression stands in, without where it lies in memory.
 use Rattle.std.specs.Prelude.{◌≤◌, Bool, List, length, map}
 use Rattle.st_ast.specs.declared.declarations.Program.{Program}
-use Rattle.st_program.specs.declared.limits.TheConstants.{MOST_LOCALS}
+use Rattle.st_resolved.specs.declared.limits.TheConstants.{MOST_LOCALS}
 use Rattle.st_types.specs.declared.scopes.Local as code_local
 use Rattle.st_types.specs.declared.scopes.Scope as code_scope
 use Rattle.st_types.specs.Names.{HasFewNames}

@@ -17,9 +17,9 @@ use Rattle.st_ast.specs.declared.statements.Stmt.TheFolds.{fold-Stmt}
 use Rattle.st_ast.specs.declared.statements.Value.{Value}
 use Rattle.st_ast.specs.declared.statements.Value.TheVariants as values
 use Rattle.std.specs.Str.{bytes_eq}
-use Rattle.st_program.specs.Terms.{Term, a_shared, a_field, Target, to_shared, to_field, Source, from_term, from_new, from_cas}
-use Rattle.st_program.specs.Terms.{Command, a_set, a_put, an_if, a_while, a_proc_call, a_launch, Block, no_commands, command_then, CheckStatement}
-use Rattle.st_program.specs.Views.{terms_of}
+use Rattle.st_resolved.specs.Terms.{Term, a_shared, a_field, Target, to_shared, to_field, Source, from_term, from_new, from_cas}
+use Rattle.st_resolved.specs.Terms.{Command, a_set, a_put, an_if, a_while, a_proc_call, a_launch, Block, no_commands, command_then, CheckStatement}
+use Rattle.st_resolved.specs.Views.{terms_of}
 use Rattle.st_types.specs.declared.errors.TypeError.{TypeError}
 use Rattle.st_types.specs.declared.errors.TypeError.TheVariants.{UnknownName, Twice, NotHere}
 use Rattle.st_types.specs.declared.kinds.Found.{Found}

@@ -10,9 +10,9 @@ use Rattle.st_ast.specs.declared.statements.Value.{Value}
 use Rattle.st_ast.specs.declared.statements.Value.TheVariants as values
 use Rattle.st_ast.specs.declared.expressions.Expr.{Expr}
 use Rattle.st_events.specs.declared.shapes.Kind.{Kind}
-use Rattle.st_program.specs.Terms.{from_term, from_new, from_cas, Command, a_set, a_put, an_if, a_while, a_proc_call, a_launch, Block, no_commands, command_then}
-use Rattle.st_program.specs.Terms.{CheckStatement}
-use Rattle.st_program.specs.Views.{terms_of}
+use Rattle.st_resolved.specs.Terms.{from_term, from_new, from_cas, Command, a_set, a_put, an_if, a_while, a_proc_call, a_launch, Block, no_commands, command_then}
+use Rattle.st_resolved.specs.Terms.{CheckStatement}
+use Rattle.st_resolved.specs.Views.{terms_of}
 use Rattle.st_types.specs.Checked.{Checked, verdict, ◌>>=◌}
 use Rattle.st_types.specs.Judged.{typed, each_of}
 use Rattle.st_types.specs.Kinds.{asks}

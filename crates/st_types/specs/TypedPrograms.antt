@@ -4,8 +4,8 @@ use Rattle.st_events.specs.declared.shapes.TheConstants.{MOST_CHECKS}
 use Rattle.st_events.specs.Shape.{ShapeLists}
 use Rattle.st_events.specs.Shape as shapes
 use Rattle.st_ast.specs.declared.declarations.Program.{Program}
-use Rattle.st_program.specs.Views.{program_of}
-use Rattle.st_program.specs.declared.programs.Resolved.{Resolved}
+use Rattle.st_resolved.specs.Views.{program_of}
+use Rattle.st_resolved.specs.declared.programs.Resolved.{Resolved}
 use Rattle.st_types.specs.Limits.{IsWithinLimits}
 use Rattle.st_types.specs.Rules.{faults_of, resolution, shape_of}
 

@@ -1,7 +1,7 @@
 -- What the code keeps of an expression and of a value, as what is seen of it.
 use Rattle.st_types.specs.declared.expressions.Typing.{Typing}
 use Rattle.st_types.specs.declared.values.TypedValue.{TypedValue}
-use Rattle.st_program.specs.Views.{term_of, source_of}
+use Rattle.st_resolved.specs.Views.{term_of, source_of}
 use Rattle.st_types.specs.Nodes.{Seen}
 use Rattle.st_types.specs.Statements.{Given}
 

@@ -1,9 +1,9 @@
 -- How far the code has walked, as the definitions read it.
 use Rattle.std.specs.Prelude.{◌+◌, ◌≤◌, List, map, length}
 use Rattle.st_events.specs.declared.shapes.TheConstants.{MOST_CHECKS, MOST_ARGS}
-use Rattle.st_program.specs.declared.limits.TheConstants.{MOST_LOCALS}
-use Rattle.st_program.specs.declared.statements.Stmt.{Stmt}
-use Rattle.st_program.specs.Views.{check_of, command_of, block_of}
+use Rattle.st_resolved.specs.declared.limits.TheConstants.{MOST_LOCALS}
+use Rattle.st_resolved.specs.declared.statements.Stmt.{Stmt}
+use Rattle.st_resolved.specs.Views.{check_of, command_of, block_of}
 use Rattle.st_types.specs.declared.walks.Launched as code_launched
 use Rattle.st_types.specs.declared.walks.Walk as code_walk
 use Rattle.st_types.specs.Scopes.{local_view}

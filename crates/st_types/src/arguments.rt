@@ -5,7 +5,7 @@ ghost use Rattle.st_types.specs.Scopes.{local_view};
 ghost use Rattle.st_types.specs.Statements.{mentions, with_number, numbers_of, args_of_check, locals_at, if_any};
 ghost use Rattle.st_types.specs.Tallies.{distinct_names};
 ghost use Rattle.std.specs.List.{flat_map};
-ghost use Rattle.st_program.specs.declared.limits.TheConstants.{MOST_LOCALS};
+ghost use Rattle.st_resolved.specs.declared.limits.TheConstants.{MOST_LOCALS};
 
 use crate::scopes::{Local, find_local};
 use st_ast::Expr;
@@ -108,7 +108,7 @@ fn locals_at<'a>(
 }
 
 /// What a check takes: its arguments by their numbers in the body, and the locals that they are.
-#[derive(Debug, Drop)]
+#[derive(Drop)]
 pub(crate) struct Taken<'a> {
     pub(crate) args: Vec<u8>,
     pub(crate) locals: Vec<Local<'a>>,

@@ -1,6 +1,6 @@
 //! Statements that give a value to a local or a cell, and calls of procedures.
 ghost use Rattle.std.specs.Prelude.{◌≡◌, ◌++◌, map, length, IfSome, Err};
-ghost use Rattle.st_program.specs.Views.{command_of};
+ghost use Rattle.st_resolved.specs.Views.{command_of};
 ghost use Rattle.st_types.specs.Checked.{Gives, verdict};
 ghost use Rattle.st_types.specs.Scopes.{scope_view, IsSmall};
 ghost use Rattle.st_types.specs.Statements.{asks_class, asks_type, asks_new, is_local, asks_proc};
@@ -22,7 +22,7 @@ use crate::scopes::{Local, Scope, find_local};
 use crate::values::{TypedValue, target_of, typed_value};
 use st_ast::{Expr, Program, TypeName, Value};
 use st_events::Site;
-use st_program::{Boxed, Stmt};
+use st_resolved::{Boxed, Stmt};
 use std::alloc::Global;
 
 /// Refuses a type name that stands for no type.

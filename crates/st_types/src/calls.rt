@@ -16,7 +16,7 @@ use crate::names::{kind_of, pred_number, proc_number};
 use crate::scopes::Scope;
 use st_ast::{Param, Program};
 use st_events::Site;
-use st_program::{Expr, Items};
+use st_resolved::{Expr, Items};
 use std::alloc::{AllocError, Global};
 
 /// Refuses arguments that do not go with the kinds of the parameters.

@@ -1,6 +1,6 @@
 //! The one call: from a tree to a typed program, or the first node that breaks a rule.
 ghost use Rattle.std.specs.Prelude.{◌≡◌, ◌++◌, [], map, IfOk, IfErr};
-ghost use Rattle.st_program.specs.Views.{check_of};
+ghost use Rattle.st_resolved.specs.Views.{check_of};
 ghost use Rattle.st_types.specs.Checked.{Gives, verdict};
 ghost use Rattle.st_types.specs.Limits.{IsWithinLimits};
 ghost use Rattle.st_types.specs.Names.{HasFewNames};
@@ -17,7 +17,7 @@ use crate::typed_programs::Typed;
 use crate::walks::{Launched, known_kind};
 use st_ast::{Field, Program};
 use st_events::{Kind, Shape};
-use st_program::{Body, Check, Items, Pred, Resolved};
+use st_resolved::{Body, Check, Items, Pred, Resolved};
 use std::alloc::{AllocError, Global};
 
 /// The kinds of fields, or of shared variables.
@@ -47,7 +47,7 @@ fn class_kinds(alloc: Global, program: &Program) -> Result<Vec<Vec<Kind>>, Alloc
 }
 
 /// Check statements, and the kinds of their arguments beside them.
-#[derive(Debug, Drop)]
+#[derive(Drop)]
 struct Apart {
     checks: Vec<Check>,
     kinds: Vec<Vec<Kind>>,
@@ -77,7 +77,7 @@ fn ask_cells(program: &Program) -> Result<(), TypeError>
 }
 
 /// The procedures and threads of a program, with numbers in the place of names, and all check statements.
-#[derive(Debug, Drop)]
+#[derive(Drop)]
 pub(crate) struct Bodies {
     pub(crate) procs: Items<Body>,
     pub(crate) threads: Items<Body>,
@@ -100,7 +100,7 @@ fn all_bodies(alloc: Global, program: &Program) -> Result<Bodies, TypeError>
 }
 
 /// The tree with numbers in the place of names, and its shape.
-#[derive(Debug, Drop)]
+#[derive(Drop)]
 pub(crate) struct Numbered {
     pub(crate) resolved: Resolved,
     pub(crate) shape: Shape,

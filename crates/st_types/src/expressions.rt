@@ -1,10 +1,10 @@
 //! Expressions: their faults in the order of the walk, their kinds, and themselves with numbers in the place of names.
 ghost use Rattle.std.specs.Prelude.{◌≡◌, ◌++◌, map, Ok};
 ghost use Rattle.st_ast.specs.declared.expressions.Expr.TheOpen.{Expr-F};
-ghost use Rattle.st_program.specs.Terms.{a_not, a_minus, a_cond};
+ghost use Rattle.st_resolved.specs.Terms.{a_not, a_minus, a_cond};
 ghost use Rattle.st_types.specs.Checked.{Gives, verdict};
 ghost use Rattle.st_types.specs.Kinds.{asks};
-ghost use Rattle.st_program.specs.Views.{term_of};
+ghost use Rattle.st_resolved.specs.Views.{term_of};
 ghost use Rattle.st_types.specs.Judged.{outcome, each_of, typed};
 ghost use Rattle.st_types.specs.Nodes.{a_bool, an_int, branch_kind, class_asked};
 ghost use Rattle.st_types.specs.Scopes.{scope_view, IsSmall};
@@ -17,7 +17,7 @@ use crate::names::{Named, fields_of, find_field};
 use crate::operators::binary;
 use crate::scopes::{Scope, find_local};
 use st_events::{Kind, Site};
-use st_program::{Boxed, Expr};
+use st_resolved::{Boxed, Expr};
 use std::alloc::Global;
 
 /// The kind of conditions.
@@ -32,7 +32,7 @@ const UNKNOWN: Named = Named {
 };
 
 /// An expression that keeps the rules: its place, its kind, and itself with numbers.
-#[derive(Debug, Drop)]
+#[derive(Drop)]
 pub(crate) struct Typing {
     pub(crate) site: Site,
     pub(crate) kind: Found,

@@ -7,7 +7,7 @@ use crate::errors::{TypeError, Wanted};
 use st_events::{Kind, Site};
 
 /// What is known of the kind of an expression, a value or a declared name.
-#[derive(Clone, Copy, Debug, PartialEq, Eq)]
+#[derive(Clone, Copy)]
 pub enum Found {
     /// Nothing, since it hangs on an unknown name, which is told at its own place.
     Unknown,
@@ -93,7 +93,7 @@ pub(crate) fn ask(asked: Found, at: Site, found: Found) -> Result<(), TypeError>
 }
 
 /// What is asked of an expression or a value, and what is found.
-#[derive(Clone, Copy, Debug)]
+#[derive(Clone, Copy)]
 pub(crate) struct Question {
     pub(crate) asked: Found,
     pub(crate) at: Site,

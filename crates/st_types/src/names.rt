@@ -10,7 +10,7 @@ use st_ast::{Field, Program, TypeName};
 use st_events::Kind;
 
 /// What a name stands for: its number among its like, and its kind.
-#[derive(Clone, Copy, Debug, PartialEq, Eq)]
+#[derive(Clone, Copy)]
 pub struct Named {
     /// From 0.
     pub number: u8,

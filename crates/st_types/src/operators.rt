@@ -1,7 +1,7 @@
 //! Operators between two operands: what they ask, and what they are.
 ghost use Rattle.std.specs.Prelude.{◌≡◌, ◌++◌};
 ghost use Rattle.st_types.specs.Kinds.{asks};
-ghost use Rattle.st_program.specs.Views.{term_of};
+ghost use Rattle.st_resolved.specs.Views.{term_of};
 ghost use Rattle.st_types.specs.Checked.{Gives, verdict};
 ghost use Rattle.st_types.specs.Nodes.{left_asked, right_asked, op_kind, op_term};
 ghost use Rattle.st_types.specs.Typing.{seen_of};
@@ -11,7 +11,7 @@ use crate::expressions::{BOOL, INT, Typing, leaf};
 use crate::kinds::{Found, Question, ask_both};
 use st_ast::Op;
 use st_events::Site;
-use st_program::{Boxed, Expr, Operator};
+use st_resolved::{Boxed, Expr, Operator};
 use std::alloc::Global;
 
 /// What is asked of a left operand.

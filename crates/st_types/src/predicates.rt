@@ -2,8 +2,8 @@
 ghost use Rattle.std.specs.Prelude.{◌≡◌, ◌≤◌, [], length, map, All, IfOk};
 ghost use Rattle.std.specs.List.{list_any};
 ghost use Rattle.std.specs.Str.{bytes_eq};
-ghost use Rattle.st_program.specs.Views.{predicate_of};
-ghost use Rattle.st_program.specs.declared.limits.TheConstants.{MOST_PARAMS};
+ghost use Rattle.st_resolved.specs.Views.{predicate_of};
+ghost use Rattle.st_resolved.specs.declared.limits.TheConstants.{MOST_PARAMS};
 ghost use Rattle.st_types.specs.Checked.{Gives, verdict};
 ghost use Rattle.st_types.specs.Names.{HasFewNames};
 ghost use Rattle.st_types.specs.Rules.{each_with_earlier, pred_faults, pred_head_faults, pred_body_faults, predicate_at, param_locals};
@@ -18,7 +18,7 @@ use crate::scopes::{Local, Scope};
 use crate::spaces::ask_params;
 use crate::walks::{kinds_of, known_kind};
 use st_ast::{Param, Program};
-use st_program::{Items, Pred};
+use st_resolved::{Items, Pred};
 use std::alloc::{AllocError, Global};
 
 /// The locals that parameters are.

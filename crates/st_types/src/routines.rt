@@ -18,7 +18,7 @@ use crate::spaces::ask_params;
 use crate::statements::statements_in;
 use crate::walks::{Launched, Walk, kinds_of};
 use st_ast::{Param, Proc, Program, Stmt, Thread};
-use st_program::{Body, Items};
+use st_resolved::{Body, Items};
 use std::alloc::Global;
 use std::mem;
 

@@ -3,14 +3,14 @@ ghost use Rattle.std.specs.Prelude.{◌≡◌, ◌≤◌, ◌<◌, length, map, 
 ghost use Rattle.std.specs.Str.{bytes_eq};
 ghost use Rattle.st_types.specs.Names.{find_local};
 ghost use Rattle.st_types.specs.Scopes.{local_view};
-ghost use Rattle.st_program.specs.declared.limits.TheConstants.{MOST_LOCALS};
+ghost use Rattle.st_resolved.specs.declared.limits.TheConstants.{MOST_LOCALS};
 
 use crate::kinds::Found;
 use crate::names::Named;
 use st_ast::Program;
 
 /// A local of a body: a parameter or a `var`. Its number is its index among the locals of the body.
-#[derive(Clone, Copy, Debug)]
+#[derive(Clone, Copy)]
 pub(crate) struct Local<'a> {
     pub(crate) name: &'a [u8],
     pub(crate) kind: Found,
@@ -19,7 +19,7 @@ pub(crate) struct Local<'a> {
 }
 
 /// What an expression stands in.
-#[derive(Clone, Copy, Debug)]
+#[derive(Clone, Copy)]
 pub(crate) struct Scope<'a> {
     pub(crate) program: &'a Program,
     pub(crate) locals: &'a [Local<'a>],

@@ -1,8 +1,8 @@
 //! Statements: their faults in the order of the walk, and themselves with numbers in the place of names.
 ghost use Rattle.std.specs.Prelude.{◌≡◌, ◌≤◌, ◌<◌, length, map, true, Ok, IfOk};
 ghost use Rattle.st_events.specs.declared.shapes.TheConstants.{MOST_ARGS};
-ghost use Rattle.st_program.specs.Terms.{an_if, a_while, a_launch};
-ghost use Rattle.st_program.specs.Views.{command_of, block_of, term_of, check_of};
+ghost use Rattle.st_resolved.specs.Terms.{an_if, a_while, a_launch};
+ghost use Rattle.st_resolved.specs.Views.{command_of, block_of, term_of, check_of};
 ghost use Rattle.st_types.specs.Checked.{Gives};
 ghost use Rattle.st_types.specs.Names.{HasFewNames};
 ghost use Rattle.st_types.specs.Stepwise.{step, step_all, step_block, step_var, step_check, typed_condition, with_check};
@@ -21,7 +21,7 @@ use crate::values::typed_condition;
 use crate::walks::{Walk, kinds_of};
 use st_ast::{Expr, Name, Program, TypeName, Value};
 use st_events::{Kind, MOST_CHECKS, Site};
-use st_program::{Boxed, Check, Items, MOST_LOCALS, Stmt};
+use st_resolved::{Boxed, Check, Items, MOST_LOCALS, Stmt};
 use std::alloc::{AllocError, Global};
 
 /// A `var`: its value, and then the local.

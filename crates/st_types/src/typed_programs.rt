@@ -2,15 +2,15 @@
 ghost use Rattle.std.specs.Prelude.{◌≡◌, ◌<◌, ◌≤◌, true, [], length, slice_get, Some, option_map};
 ghost use Rattle.st_events.specs.Shape as shapes;
 ghost use Rattle.st_lex.specs.Spellings.{is_name};
-ghost use Rattle.st_program.specs.Views.{program_of};
-ghost use Rattle.st_program.specs.WellFormed.{IsWellFormed};
+ghost use Rattle.st_resolved.specs.Views.{program_of};
+ghost use Rattle.st_resolved.specs.WellFormed.{IsWellFormed};
 ghost use Rattle.st_types.specs.Limits.{IsWithinLimits};
 ghost use Rattle.st_types.specs.Rules.{faults_of, resolution, shape_of};
 ghost use Rattle.st_types.specs.TypedPrograms.{IsTyped};
 
 use st_ast::Program;
 use st_events::{MOST_CHECKS, MOST_MUTATORS, Shape, Site};
-use st_program::Resolved;
+use st_resolved::Resolved;
 use std::marker::Model;
 
 /// How many of each a program has.
@@ -24,7 +24,7 @@ pub struct Counts {
 }
 
 /// A tree that keeps the rules, the same with numbers in the place of names, and its shape. Only `check_types` makes one.
-#[derive(Debug, Drop)]
+#[derive(Drop)]
 pub struct Typed {
     program: Program,
     resolved: Resolved,
@@ -34,7 +34,7 @@ pub struct Typed {
 impl Model for Typed {
     ghost use Rattle.std.specs.Coded.{codes};
     ghost use Rattle.st_ast.specs.contracts.declarations.Program as tree;
-    ghost use Rattle.st_program.specs.contracts.programs.Resolved as numbers;
+    ghost use Rattle.st_resolved.specs.contracts.programs.Resolved as numbers;
     ghost use Rattle.st_types.specs.TypedPrograms.{TypedView, IsTyped};
 
     ghost Value = { TypedView };

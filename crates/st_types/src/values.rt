@@ -1,7 +1,7 @@
 //! What stands to the right of `=`: an expression, a new object, or a compare and exchange.
 ghost use Rattle.std.specs.Prelude.{◌≡◌, ◌++◌, Ok};
 ghost use Rattle.st_ast.specs.declared.statements.Value.TheVariants as values;
-ghost use Rattle.st_program.specs.Terms.{from_cas};
+ghost use Rattle.st_resolved.specs.Terms.{from_cas};
 ghost use Rattle.st_types.specs.Checked.{Gives, verdict};
 ghost use Rattle.st_types.specs.Kinds.{asks};
 ghost use Rattle.st_types.specs.Nodes.{a_bool};
@@ -9,7 +9,7 @@ ghost use Rattle.st_types.specs.Scopes.{scope_view, IsSmall};
 ghost use Rattle.st_types.specs.Statements.{target_at};
 ghost use Rattle.st_types.specs.Stepwise.{typed_value, typed_condition};
 ghost use Rattle.st_types.specs.Typing.{seen_of, given_of};
-ghost use Rattle.st_program.specs.Views.{term_of, target_of};
+ghost use Rattle.st_resolved.specs.Views.{term_of, target_of};
 
 use crate::errors::TypeError;
 use crate::expressions::{BOOL, Typing, typed};
@@ -18,11 +18,11 @@ use crate::names::{class_kind, class_number};
 use crate::scopes::Scope;
 use st_ast::Value;
 use st_events::Site;
-use st_program::{Boxed, Expr, Source, Target};
+use st_resolved::{Boxed, Expr, Source, Target};
 use std::alloc::Global;
 
 /// A value that keeps the rules: its place, its kind, and itself with numbers.
-#[derive(Debug, Drop)]
+#[derive(Drop)]
 pub(crate) struct TypedValue {
     pub(crate) site: Site,
     pub(crate) kind: Found,

@@ -1,6 +1,6 @@
 //! How far a body was walked: its locals so far, and the check statements of the source so far.
 ghost use Rattle.std.specs.Prelude.{◌≡◌, ◌≤◌, length, map, OnOk, IfOk};
-ghost use Rattle.st_program.specs.Views.{check_of};
+ghost use Rattle.st_resolved.specs.Views.{check_of};
 ghost use Rattle.st_types.specs.Scopes.{scope_view, local_view};
 ghost use Rattle.st_types.specs.Statements.{plain_scope, declare, known_kind, forgotten, closed};
 ghost use Rattle.st_types.specs.Stepwise.{with_check};
@@ -10,18 +10,18 @@ use crate::kinds::Found;
 use crate::scopes::{Local, Scope};
 use st_ast::Program;
 use st_events::Kind;
-use st_program::Check;
+use st_resolved::Check;
 use std::alloc::{AllocError, Global};
 
 /// A check statement with numbers, and the kinds of its arguments.
-#[derive(Debug, Drop)]
+#[derive(Drop)]
 pub struct Launched {
     pub check: Check,
     pub kinds: Vec<Kind>,
 }
 
 /// How far a body was walked.
-#[derive(Debug, Drop)]
+#[derive(Drop)]
 pub(crate) struct Walk<'a> {
     /// Those of the body, in order.
     pub(crate) locals: Vec<Local<'a>>,

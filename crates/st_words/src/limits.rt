@@ -8,3 +8,8 @@ pub const USUAL_CHECKERS: u8 = 2;
 pub const MOST_TURNS: u32 = 1_000;
 /// The most digits of a number, leading zeros included.
 pub(crate) const MOST_DIGITS: usize = 20;
+
+// The numbers of the table of options, once more.
+const _: () = prove!(
+    MOST_CHECKERS == 8 && USUAL_CHECKERS == 2 && MOST_TURNS == 1_000 && MOST_DIGITS == 20
+);

@@ -5,7 +5,7 @@ use std::alloc::{AllocError, Global};
 use std::marker::Model;
 
 /// The name of a file, as it stands among the words. Contracts see its bytes.
-#[derive(Debug, Drop)]
+#[derive(Drop)]
 pub struct FileName {
     text: String,
 }
@@ -45,7 +45,7 @@ pub enum Form {
 }
 
 /// What `run` is asked to do. Its numbers are within the table of limits.
-#[derive(Debug, Drop)]
+#[derive(Drop)]
 pub struct RunWords {
     /// The file of the source.
     pub file: FileName,
@@ -68,7 +68,7 @@ pub struct RunWords {
 }
 
 /// What the program is asked to do.
-#[derive(Debug, Drop)]
+#[derive(Drop)]
 pub enum Words {
     /// `run FILE`: runs the source.
     Run(RunWords),

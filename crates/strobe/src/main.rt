@@ -4,27 +4,17 @@
 ghost use Rattle.std.specs.Prelude.{◌≡◌};
 ghost use Rattle.std.specs.Process.{exit_status};
 
+#[cfg(test)]
+mod tests;
+mod words;
+
+use crate::words::command_words;
 use st_io::{NoPace, RealFiles, RealSink};
 use st_top::{Outcome, refuse_without_memory, strobe};
-use std::alloc::AllocError;
-use std::env;
 use std::process::ExitCode;
 use std::rt::Runtime;
 use std::sync::Wait;
 use std::thread::Threads;
-
-/// The words of the command line, without the program's name. Where the system cannot give them there are none, which are
-/// wrong words. The error is that there is no memory for them.
-fn command_words<R: Runtime + AllocGlobal>(rt: &R) -> Result<Vec<String>, AllocError> {
-    let mut words = Vec::new(rt.alloc());
-    let Ok(given) = env::args(rt) else {
-        return Ok(words);
-    };
-    for word in given.skip(1) {
-        words.push(word)?;
-    }
-    Ok(words)
-}
 
 /// The status that the process ends with is that of the call.
 fn final_status(outcome: &Outcome) -> ExitCode
@@ -34,29 +24,17 @@ fn final_status(outcome: &Outcome) -> ExitCode
 }
 
 /// Does what the command line says.
-fn run<R: Runtime + AllocGlobal + Threads + Wait + Sync>(rt: &R) -> ExitCode {
+fn run<R: Runtime + AllocGlobal + Threads + Wait + Sync>(rt: &R) -> Outcome {
     let mut out = RealSink::make(rt);
-    let outcome = match command_words(rt) {
+    match command_words(rt) {
         Ok(words) => {
             let mut files = RealFiles::make(rt);
             strobe(rt, rt.alloc(), &words, &mut files, &mut out, &NoPace)
         }
         Err(_) => refuse_without_memory(&mut out),
-    };
-    final_status(&outcome)
+    }
 }
 
 fn main(rt: HostRuntime) -> ExitCode {
-    run(&rt)
-}
-
-#[cfg(test)]
-mod tests {
-    use super::*;
-
-    // The words of a test's process are no command.
-    #[test]
-    fn wrong_words_end_with_their_status(rt: HostRuntime) {
-        assert_eq!(rt; run(&rt), ExitCode::from(2));
-    }
+    final_status(&run(&rt))
 }

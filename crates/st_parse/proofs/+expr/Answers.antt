@@ -1,12 +1,12 @@
 use Rattle.std.proofs.Common.{◌≡◌, true, false, [], ◌∷◌, ◌++◌, refl, ap, sym, subst, ◌∙◌, rules, arith}
 use Rattle.std.specs.Option.{is_some}
-use Rattle.st_reading.specs.declared.levels.Level.TheVariants as level
-use Rattle.st_syntax.specs.declared.sorts.Sort.TheVariants as sort
-use Rattle.st_syntax.specs.Operators.{chained}
-use Rattle.st_reading.specs.Reading.{nested, choice, unary, link, operand_of, is_operator, is_sort, sees, one_more, after_comma}
+use Rattle.st_grammar_laws.specs.declared.levels.Level.TheVariants as level
+use Rattle.st_grammar.specs.declared.sorts.Sort.TheVariants as sort
+use Rattle.st_grammar.specs.Operators.{chained}
+use Rattle.st_grammar_laws.specs.Reading.{nested, choice, unary, link, operand_of, is_operator, is_sort, sees, one_more, after_comma}
 use Rattle.st_parse.specs.Reads.{Reads}
-use Rattle.st_syntax.specs.Sorts.{same_sort}
-use Rattle.st_syntax.specs.Terminals.{next_sort}
+use Rattle.st_grammar.specs.Sorts.{same_sort}
+use Rattle.st_grammar.specs.Terminals.{next_sort}
 use Rattle.st_parse.proofs.NestedLemmas.{nested_whole, nested_prefixed, no_operator, linked_begins}
 use Rattle.st_parse.proofs.ReadsLemmas.{memory_gone, handed_on, loop_stops, more_made, more_stops, listed_begins}
 use Rattle.st_parse.proofs.Turns.{no_turn, turn_taken}

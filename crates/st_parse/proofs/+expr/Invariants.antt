@@ -1,11 +1,11 @@
 -- Each function reads with a depth; below a depth the rules are ranked from the innermost to the whole expression.
 use Rattle.std.proofs.Common.{◌≡◌, ℕ, ◌+◌, ◌*◌, ◌<◌, length, is_some}
-use Rattle.st_syntax.specs.Operators.{chained}
-use Rattle.st_reading.specs.Reading as spec
-use Rattle.st_syntax.specs.declared.operators.Chain.{Chain}
-use Rattle.st_syntax.specs.declared.operators.Chain.TheVariants as chain
-use Rattle.st_reading.specs.declared.levels.Level.TheVariants as level
-use Rattle.st_syntax.specs.declared.sorts.Sort.TheVariants as sort
+use Rattle.st_grammar.specs.Operators.{chained}
+use Rattle.st_grammar_laws.specs.Reading as spec
+use Rattle.st_grammar.specs.declared.operators.Chain.{Chain}
+use Rattle.st_grammar.specs.declared.operators.Chain.TheVariants as chain
+use Rattle.st_grammar_laws.specs.declared.levels.Level.TheVariants as level
+use Rattle.st_grammar.specs.declared.sorts.Sort.TheVariants as sort
 use Rattle.st_parse.proofs.Ranks.{rank}
 use Rattle.st_parse.proofs.+expr.Given as goal
 

@@ -1,4 +1,4 @@
-use Rattle.st_program.specs.Views.{program_of}
+use Rattle.st_resolved.specs.Views.{program_of}
 use Rattle.st_audit.proofs.FindingLemmas.{right_has_no_finding}
 use Rattle.st_audit.proofs.audits.audit_program.Goals as goal
 

@@ -3,7 +3,7 @@ use Rattle.std.proofs.lemmas.List.{length-map}
 use Rattle.std.proofs.lemmas.Option.{slice_get_within}
 use Rattle.st_events.specs.Terms.{epoch_of}
 use Rattle.st_events.proofs.CountLemmas.{epoch_counts_launches}
-use Rattle.st_program.specs.Views.{program_of, routine_of}
+use Rattle.st_resolved.specs.Views.{program_of, routine_of}
 use Rattle.st_mutator.proofs.FewLemmas.{well_formed_has_few_locals}
 use Rattle.st_audit.specs.declared.strays.Stray.{Stray}
 use Rattle.st_audit.specs.declared.findings.Finding.{Finding}

@@ -4,7 +4,7 @@ use Rattle.st_events.specs.declared.events.Event.{Event}
 use Rattle.st_events.specs.declared.events.Event.TheVariants.{New}
 use Rattle.st_events.specs.History.{is_own}
 use Rattle.st_events.specs.Terms.{own_events}
-use Rattle.st_program.specs.Views.{program_of}
+use Rattle.st_resolved.specs.Views.{program_of}
 use Rattle.st_mutator.specs.Mutators.{turn_of_want}
 use Rattle.st_audit.specs.Differences.{is_end}
 use Rattle.st_audit.proofs.DifferenceLemmas.{IsFollowed, Narrows, GoesOn, followed_at_first, own_are_few}

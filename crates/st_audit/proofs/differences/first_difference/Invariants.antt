@@ -1,4 +1,4 @@
-use Rattle.st_program.specs.Views.{program_of}
+use Rattle.st_resolved.specs.Views.{program_of}
 use Rattle.st_audit.proofs.DifferenceLemmas.{IsComparedUpTo}
 use Rattle.st_audit.proofs.differences.first_difference.Given as goal
 

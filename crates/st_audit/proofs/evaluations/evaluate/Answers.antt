@@ -1,7 +1,7 @@
 use Rattle.std.proofs.Common.{◌∙◌}
 use Rattle.st_events.specs.Heap.{heap_of}
-use Rattle.st_program.specs.Views.{program_of}
-use Rattle.st_threads.specs.Right.{words_of}
+use Rattle.st_resolved.specs.Views.{program_of}
+use Rattle.st_thread_meaning.specs.Right.{words_of}
 use Rattle.st_eval.specs.Evaluations.{budget}
 use Rattle.st_audit.proofs.EvaluationLemmas.{evaluation_begins, evaluation_reads, evaluation_ends}
 use Rattle.st_audit.proofs.evaluations.evaluate.Goals as goal

@@ -1,7 +1,7 @@
 use Rattle.std.proofs.Common.{◌≡◌, length}
 use Rattle.st_events.specs.Heap.{heap_of}
-use Rattle.st_program.specs.Views.{program_of}
-use Rattle.st_threads.specs.Right.{words_of}
+use Rattle.st_resolved.specs.Views.{program_of}
+use Rattle.st_thread_meaning.specs.Right.{words_of}
 use Rattle.st_eval.specs.Evaluations.{IsMadeFor, budget}
 use Rattle.st_audit.proofs.EvaluationLemmas.{left_of, IsEvaluating}
 use Rattle.st_audit.proofs.evaluations.evaluate.Given as goal

@@ -1,5 +1,5 @@
 use Rattle.std.proofs.Common.{◌+◌, Option, sym, subst, arith}
-use Rattle.st_program.specs.Views.{program_of}
+use Rattle.st_resolved.specs.Views.{program_of}
 use Rattle.st_audit.specs.declared.strays.Stray.{Stray}
 use Rattle.st_audit.specs.Findings.{AreComparedUpTo}
 use Rattle.st_audit.proofs.StrayLemmas.{one_thread_more, all_threads}

@@ -1,4 +1,4 @@
-use Rattle.st_program.specs.Views.{program_of}
+use Rattle.st_resolved.specs.Views.{program_of}
 use Rattle.st_audit.specs.Findings.{AreComparedUpTo}
 use Rattle.st_audit.proofs.strays.first_stray.Given as goal
 

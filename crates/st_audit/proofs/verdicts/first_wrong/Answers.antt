@@ -4,7 +4,7 @@ use Rattle.st_events.specs.declared.events.Event.{Event}
 use Rattle.st_events.specs.declared.events.Event.TheVariants.{New}
 use Rattle.st_events.specs.Heap.{Heap}
 use Rattle.st_events.specs.Terms.{heap_after, epoch_of}
-use Rattle.st_program.specs.Views.{program_of}
+use Rattle.st_resolved.specs.Views.{program_of}
 use Rattle.st_eval.specs.Evaluations.{budget}
 use Rattle.st_audit.specs.Findings.{IsRightAt}
 use Rattle.st_audit.specs.Heaps.{CanTake, heap_next}

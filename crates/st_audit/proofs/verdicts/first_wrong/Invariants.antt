@@ -1,7 +1,7 @@
 use Rattle.std.proofs.Common.{◌≡◌, ◌<◌, ℕ, length, take}
 use Rattle.st_events.specs.Heap.{heap_of}
 use Rattle.st_events.specs.Terms.{heap_after, epoch_of}
-use Rattle.st_program.specs.Views.{program_of}
+use Rattle.st_resolved.specs.Views.{program_of}
 use Rattle.st_eval.specs.Evaluations.{IsMadeFor, budget}
 use Rattle.st_audit.specs.Findings.{IsRightAt}
 use Rattle.st_audit.proofs.RoomLemmas.{room}

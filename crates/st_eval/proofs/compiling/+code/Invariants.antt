@@ -1,5 +1,5 @@
 use Rattle.std.proofs.Common.{◌≡◌, ◌++◌, drop}
-use Rattle.st_program.specs.Views.{args_of}
+use Rattle.st_resolved.specs.Views.{args_of}
 use Rattle.st_eval.specs.StraightCode.{codes_of}
 use Rattle.st_eval.proofs.compiling.+code.Given as goal
 

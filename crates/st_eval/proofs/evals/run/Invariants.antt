@@ -1,5 +1,5 @@
 use Rattle.std.proofs.Common.{◌≡◌}
-use Rattle.st_program.specs.Views.{program_of}
+use Rattle.st_resolved.specs.Views.{program_of}
 use Rattle.st_eval.specs.Runs.{turn_at}
 use Rattle.st_eval.specs.Room.{IsRunning}
 use Rattle.st_eval.specs.Weights.{weight}

@@ -1,6 +1,6 @@
 use Rattle.std.proofs.Common.{sym, subst, List, map, take}
-use Rattle.st_program.specs.Terms.{Term}
-use Rattle.st_program.specs.Views.{term_of, check_of}
+use Rattle.st_resolved.specs.Terms.{Term}
+use Rattle.st_resolved.specs.Views.{term_of, check_of}
 use Rattle.st_eval.specs.Bodies.{LaysBodies, check_bodies}
 use Rattle.st_eval.proofs.BodyLemmas.{laid, checks_further}
 use Rattle.st_eval.proofs.program_codes.lay_checks.Goals as goal

@@ -1,5 +1,5 @@
 use Rattle.std.proofs.Common.{map, take}
-use Rattle.st_program.specs.Views.{predicate_of}
+use Rattle.st_resolved.specs.Views.{predicate_of}
 use Rattle.st_eval.specs.Bodies.{LaysBodies, predicate_bodies}
 use Rattle.st_eval.proofs.program_codes.lay_preds.Given as goal
 

@@ -2,6 +2,7 @@ use Rattle.std.proofs.Common.{◌≡◌, true}
 use Rattle.st_events.proofs.WorldLemmas.{world_after_one_more}
 use Rattle.st_events.proofs.LegalLemmas.{empty_is_legal, one_more_is_legal, prefix_is_legal, each_is_legal}
 use Rattle.st_events.proofs.LegalEvents.{events_are_told}
+use Rattle.st_events.proofs.ChargeLemmas.{charges_pay_for_launches}
 use Rattle.st_events.proofs.CountLemmas.{epoch_counts_launches, made_counts_news}
 use Rattle.st_events.proofs.JudgeLemmas.{judged_by_launch}
 use Rattle.st_events.proofs.RetireLemmas.{launched_is_active_or_retired, retired_is_not_active, retired_is_launched, retired_at_one_ticket}
@@ -27,6 +28,7 @@ returns c = record {
     one_ticket = retired_at_one_ticket;
   };
   counts = record { epoch = epoch_counts_launches; made = made_counts_news };
+  charge = charges_pay_for_launches;
   words = record { heap = journal_holds_words; launches = launches_hold_words };
   judges = λ shape limits test more. judged_by_launch (λ sizes launch lost verdict. test sizes launch lost verdict ≡ true) more shape limits;
   pool = large_pool_loses_nothing;

@@ -1,5 +1,5 @@
 use Rattle.std.proofs.Common.{◌≡◌, ◌≢◌, ◌∙◌, ℕ, List, sym, subst, get_or, ◌<◌, length}
-use Rattle.st_events.proofs.ReplayLemmas.{remove_then_without, without_what_is_absent}
+use Rattle.st_events.proofs.AmongLemmas.{remove_then_without, without_what_is_absent}
 use Rattle.st_events.proofs.replaying.drop_number.Goals as goal
 
 pub loop-place-preserved : goal.loop-place-preserved

@@ -1,5 +1,5 @@
 use Rattle.std.proofs.Common.{◌≡◌, ◌≤◌, length, drop, map}
-use Rattle.st_program.specs.Views.{block_of, check_of}
+use Rattle.st_resolved.specs.Views.{block_of, check_of}
 use Rattle.st_mutator.specs.Laying.{lay_block}
 use Rattle.st_mutator.proofs.bodies.+statements.Given as goal
 

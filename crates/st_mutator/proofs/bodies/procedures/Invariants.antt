@@ -1,5 +1,5 @@
 use Rattle.std.proofs.Common.{◌≡◌, ◌++◌, drop, map}
-use Rattle.st_program.specs.Views.{check_of, routine_of}
+use Rattle.st_resolved.specs.Views.{check_of, routine_of}
 use Rattle.st_mutator.specs.Laying.{LaidProcs, lay_procs}
 use Rattle.st_mutator.proofs.bodies.procedures.Given as goal
 

@@ -1,5 +1,5 @@
 use Rattle.std.proofs.Common.{◌≡◌, ◌≤◌, length, drop}
-use Rattle.st_program.specs.Views.{args_of}
+use Rattle.st_resolved.specs.Views.{args_of}
 use Rattle.st_mutator.specs.Laying.{lay_terms}
 use Rattle.st_mutator.proofs.laying.terms.Given as goal
 

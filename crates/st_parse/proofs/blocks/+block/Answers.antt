@@ -1,8 +1,8 @@
 use Rattle.std.proofs.Common.{◌≡◌, true, false, refl, ap, sym, subst, ◌∙◌, arith}
-use Rattle.st_reading.specs.Reading as spec
-use Rattle.st_reading.specs.Reading.{in_block, one_more, statement, blocks}
+use Rattle.st_grammar_laws.specs.Reading as spec
+use Rattle.st_grammar_laws.specs.Reading.{in_block, one_more, statement, blocks}
 use Rattle.st_parse.specs.Reads.{Reads}
-use Rattle.st_syntax.specs.Terminals.{next_sort}
+use Rattle.st_grammar.specs.Terminals.{next_sort}
 use Rattle.st_parse.proofs.NestedLemmas.{blocks_none, blocks_some}
 use Rattle.st_parse.proofs.ReadsLemmas.{memory_gone, handed_on, loop_stops, more_made, more_stops, many_begins}
 use Rattle.st_parse.proofs.Turns.{no_turn, turn_taken}

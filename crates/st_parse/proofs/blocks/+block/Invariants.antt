@@ -1,6 +1,6 @@
 -- Each function reads with a depth; below a depth the rules are ranked from the innermost to the block.
 use Rattle.std.proofs.Common.{◌≡◌, ℕ, ◌+◌, ◌*◌, ◌≤◌, length}
-use Rattle.st_reading.specs.Reading as spec
+use Rattle.st_grammar_laws.specs.Reading as spec
 use Rattle.st_parse.proofs.blocks.+block.Given as goal
 
 abbrev pub decreases-block : goal.decreases-block

@@ -1,5 +1,5 @@
 use Rattle.std.proofs.Common.{sym, ap, ◌∙◌}
-use Rattle.st_syntax.specs.Terminals.{next_sort}
+use Rattle.st_grammar.specs.Terminals.{next_sort}
 use Rattle.st_parse.proofs.CursorLemmas.{from_token, past_tokens}
 use Rattle.st_parse.proofs.cursors.sort_at.Goals as goal
 

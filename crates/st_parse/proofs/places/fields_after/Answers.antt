@@ -1,7 +1,7 @@
 use Rattle.std.proofs.Common.{◌≡◌, refl, sym, ◌∙◌, true, false, length, ◌≤◌, rules, arith}
-use Rattle.st_syntax.specs.declared.sorts.Sort.TheVariants as sort
-use Rattle.st_reading.specs.Reading.{is_sort, sees, field_after, fields_after}
-use Rattle.st_syntax.specs.Sorts.{same_sort}
+use Rattle.st_grammar.specs.declared.sorts.Sort.TheVariants as sort
+use Rattle.st_grammar_laws.specs.Reading.{is_sort, sees, field_after, fields_after}
+use Rattle.st_grammar.specs.Sorts.{same_sort}
 use Rattle.st_parse.proofs.ReadsLemmas.{reads_ok, reads_err, loop_stops, handed_on}
 use Rattle.st_parse.proofs.Turns.{no_turn, turn_taken}
 use Rattle.st_parse.proofs.places.fields_after.Goals as goal

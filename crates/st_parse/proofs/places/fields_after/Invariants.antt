@@ -1,5 +1,5 @@
 use Rattle.std.proofs.Common.{◌≡◌, ◌≤◌, length}
-use Rattle.st_reading.specs.Reading as spec
+use Rattle.st_grammar_laws.specs.Reading as spec
 use Rattle.st_parse.proofs.places.fields_after.Given as goal
 
 abbrev pub invariant-loop-alloc : goal.invariant-loop-alloc

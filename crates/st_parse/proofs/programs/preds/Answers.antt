@@ -1,8 +1,8 @@
 use Rattle.std.proofs.Common.{◌≡◌, true, false, [], ◌∷◌, ◌++◌, refl, ap, sym, subst, ◌∙◌, arith}
-use Rattle.st_syntax.specs.declared.sorts.Sort.TheVariants as sort
-use Rattle.st_reading.specs.Reading as spec
-use Rattle.st_reading.specs.Reading.{is_sort, one_more, sees}
-use Rattle.st_syntax.specs.Sorts.{same_sort}
+use Rattle.st_grammar.specs.declared.sorts.Sort.TheVariants as sort
+use Rattle.st_grammar_laws.specs.Reading as spec
+use Rattle.st_grammar_laws.specs.Reading.{is_sort, one_more, sees}
+use Rattle.st_grammar.specs.Sorts.{same_sort}
 use Rattle.st_parse.proofs.ReadsLemmas.{handed_on, loop_stops, more_made, more_stops, many_begins, listed_begins}
 use Rattle.st_parse.proofs.Turns.{no_turn, turn_taken}
 use Rattle.st_parse.proofs.programs.preds.Goals as goal

@@ -1,6 +1,6 @@
 use Rattle.std.proofs.Common.{◌≡◌, ◌≤◌, length}
-use Rattle.st_reading.specs.Reading as spec
-use Rattle.st_syntax.specs.declared.sorts.Sort.TheVariants as sort
+use Rattle.st_grammar_laws.specs.Reading as spec
+use Rattle.st_grammar.specs.declared.sorts.Sort.TheVariants as sort
 use Rattle.st_parse.proofs.programs.preds.Given as goal
 
 abbrev pub invariant-loop-alloc : goal.invariant-loop-alloc

@@ -1,5 +1,5 @@
 use Rattle.std.proofs.Common.{◌≡◌, ◌+◌, ◌++◌, map, take, vec_len, vec_capacity}
-use Rattle.st_schedule.specs.Runs.{end_of}
+use Rattle.st_run_meaning.specs.Runs.{end_of}
 use Rattle.st_mutator.specs.Mutators.{turn_of_want}
 use Rattle.st_sched.proofs.closing.add_ends.Given as goal
 

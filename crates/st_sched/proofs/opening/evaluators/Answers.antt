@@ -1,7 +1,7 @@
 use Rattle.std.proofs.Common.{sym, subst, arith}
 use Rattle.std.specs.List.{All}
 use Rattle.std.proofs.lemmas.List.Elements.{All-push}
-use Rattle.st_program.specs.Views.{program_of}
+use Rattle.st_resolved.specs.Views.{program_of}
 use Rattle.st_sched.specs.Standing.{IsIdleEval}
 use Rattle.st_sched.proofs.opening.evaluators.Goals as goal
 

@@ -1,5 +1,5 @@
 use Rattle.std.proofs.Common.{◌≡◌, List, length, slice_get, sym, arith, ap, ◌∙◌}
-use Rattle.st_program.specs.Views.{program_of}
+use Rattle.st_resolved.specs.Views.{program_of}
 use Rattle.st_sched.specs.declared.seats.Seat.{Seat}
 use Rattle.st_sched.proofs.OpenLemmas.{one_more_seat}
 use Rattle.st_sched.proofs.opening.seats_of.Goals as goal

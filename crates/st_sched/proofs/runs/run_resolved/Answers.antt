@@ -1,11 +1,11 @@
 use Rattle.std.proofs.Common.{◌≡◌, ◌≤◌, length, sym, ◌∙◌, ap, subst, arith}
-use Rattle.st_program.specs.Views.{program_of}
-use Rattle.st_threads.specs.Right.{IsRightRun}
+use Rattle.st_resolved.specs.Views.{program_of}
+use Rattle.st_thread_meaning.specs.Right.{IsRightRun}
 use Rattle.st_snap.specs.Snapshots.{Snapshots, event_room}
-use Rattle.st_schedule.specs.States.{first_state}
-use Rattle.st_schedule.specs.Runs.{is_over}
-use Rattle.st_schedule.proofs.EndLemmas.{runs_come_to_one_end}
-use Rattle.st_schedule.proofs.RunLemmas.{scheduled_run_is_right}
+use Rattle.st_run_meaning.specs.States.{first_state}
+use Rattle.st_run_meaning.specs.Runs.{is_over}
+use Rattle.st_run_meaning.proofs.EndLemmas.{runs_come_to_one_end}
+use Rattle.st_run_meaning.proofs.RunLemmas.{scheduled_run_is_right}
 use Rattle.st_sched.specs.UnderWay.{IsOnTheWay}
 use Rattle.st_sched.proofs.EndLemmas.{sound_is_history, way_is_under_way}
 use Rattle.st_sched.proofs.runs.run_resolved.Goals as goal

@@ -1,7 +1,7 @@
 use Rattle.std.proofs.Common.{◌-◌, length}
-use Rattle.st_program.specs.Views.{program_of}
+use Rattle.st_resolved.specs.Views.{program_of}
 use Rattle.st_snap.specs.Snapshots.{event_room}
-use Rattle.st_schedule.specs.States.{first_state}
+use Rattle.st_run_meaning.specs.States.{first_state}
 use Rattle.st_sched.specs.UnderWay.{IsOnTheWay}
 use Rattle.st_sched.proofs.runs.run_resolved.Given as goal
 

@@ -1,4 +1,4 @@
-use Rattle.st_bounds.proofs.WithinLemmas.{within_limits}
+use Rattle.st_limit_laws.proofs.WithinLemmas.{within_limits}
 use Rattle.st_source.proofs.reading.typed_source.Goals as goal
 
 pub check_types-requires : goal.check_types-requires

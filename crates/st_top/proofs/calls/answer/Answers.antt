@@ -1,4 +1,6 @@
-use Rattle.std.proofs.Common.{◌≡◌, Some, None, inr}
+use Rattle.std.proofs.Common.{◌≡◌, Option, Some, None, IfSome, inr, subst}
+use Rattle.st_top.specs.Commands.{ReadsNoFile}
+use Rattle.st_words.specs.declared.words.Words.{Words}
 use Rattle.st_words.specs.Accepted.{accepted_words, texts}
 use Rattle.st_top.proofs.EndingLemmas.{memory_ends_the_call, untouched_files_go_on}
 use Rattle.st_top.proofs.calls.answer.Goals as goal
@@ -12,7 +14,7 @@ returns-in-Ok-clause-words_refused g c = λ none.
 
 pub returns-in-Ok-clause-untouched : goal.returns-in-Ok-clause-untouched
 returns-in-Ok-clause-untouched g c = λ none.
-    let some : accepted_words (texts c.args.words.now) ≡ Some c.in-Ok.words = c.in-Ok.ensures.accepted in cc
+    c.do_words.ensures.untouched (subst (λ (accepted : Option Words). IfSome accepted ReadsNoFile) c.in-Ok.ensures.accepted none)
 
 pub returns-in-Err-Memory-clause-ended : goal.returns-in-Err-Memory-clause-ended
 returns-in-Err-Memory-clause-ended g c = memory_ends_the_call _ _ _ _ _ _ c.refuse_without_memory.ensures.told

@@ -1,11 +1,25 @@
 use Rattle.std.proofs.Common.{ℕ, List, Some, None, IsSome, IfSome, ◌↔◌, ap, subst, arith}
 use Rattle.st_io.specs.Counts.{RoseBy}
 use Rattle.st_words.specs.Accepted.{accepted_words, texts}
-use Rattle.st_top.specs.Endings.{IsDoneStatus, IsRefusedExactly}
+use Rattle.st_top.specs.Endings.{IsDoneStatus, IsDoneCall, IsRefusedExactly}
+use Rattle.st_top.specs.Headline.{IsHeadline}
+use Rattle.st_top.specs.Putting.{untold_sink}
 use Rattle.st_top.specs.Commands.{Told}
 use Rattle.st_top.specs.Orders.{order_of}
 use Rattle.st_top.proofs.CallLemmas.{complete_on_text, run_status_on_text}
 use Rattle.st_top.proofs.calls.strobe_on_text.Goals as goal
+
+pub returns-clause-headline : goal.returns-clause-headline
+returns-clause-headline g c =
+    subst (λ (text : List ℕ). IfSome c.strobe.result.ran (λ ran. IfSome (accepted_words (texts c.args.words.now)) (λ accepted.
+    IfSome (order_of (λ _. Some text) accepted) (λ order. IsHeadline order c.strobe.result.status ran untold_sink untold_sink))))
+    c.make-files.ensures.text c.strobe.ensures.headline
+
+pub returns-clause-done : goal.returns-clause-done
+returns-clause-done g c =
+    subst (λ (text : List ℕ). IfSome (accepted_words (texts c.args.words.now)) (λ accepted.
+    IsDoneStatus c.strobe.result.status → IsDoneCall (λ _. Some text) accepted c.strobe.result untold_sink untold_sink))
+    c.make-files.ensures.text c.strobe.ensures.done
 
 pub returns-clause-input : goal.returns-clause-input
 returns-clause-input g c =

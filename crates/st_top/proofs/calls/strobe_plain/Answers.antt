@@ -1,9 +1,10 @@
+use Rattle.st_top.proofs.DoneLemmas.{headline_is_shown}
 use Rattle.st_top.proofs.EndingLemmas.{ended_call_has_headline, ended_call_has_its_run, done_status_tells_done, refusal_status_tells_refused, accepted_words_are_not_refused}
 use Rattle.st_top.proofs.EndingLemmas.{read_fault_comes_by_count, write_fault_comes_by_count, input_is_refused_exactly, written_run_has_its_status, call_is_complete}
 use Rattle.st_top.proofs.calls.strobe_plain.Goals as goal
 
 pub returns-clause-headline : goal.returns-clause-headline
-returns-clause-headline g c = ended_call_has_headline _ _ _ _ _ _ c.do_words.ensures.ended
+returns-clause-headline g c = headline_is_shown _ _ _ _ _ _ (ended_call_has_headline _ _ _ _ _ _ c.do_words.ensures.ended)
 
 pub returns-clause-ran : goal.returns-clause-ran
 returns-clause-ran g c = ended_call_has_its_run _ _ _ _ _ _ c.do_words.ensures.ended

@@ -3,8 +3,8 @@ use Rattle.st_audit.specs.declared.findings.Finding.TheVariants as found
 use Rattle.st_audit.specs.Findings.{IsRightJournal, IsFinding}
 use Rattle.st_events.specs.Terms.{ShapeLists}
 use Rattle.st_journal.specs.Format.{FileLists}
-use Rattle.st_program.specs.Terms.{Program as Numbers}
-use Rattle.st_program.specs.Views.{program_of}
+use Rattle.st_resolved.specs.Terms.{Program as Numbers}
+use Rattle.st_resolved.specs.Views.{program_of}
 use Rattle.st_top.proofs.DoingLemmas.{holds_of_tree, journal_is_audited}
 use Rattle.st_top.proofs.journals.audit_journal.Goals as goal
 

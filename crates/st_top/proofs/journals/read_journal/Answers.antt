@@ -1,12 +1,10 @@
-use Rattle.std.proofs.Common.{ℕ, List}
-use Rattle.st_top.specs.Deeds.{IsJournalOf}
-use Rattle.st_top.proofs.ReadingLemmas.{each_ok, each_err, holds_of_told, told_journal_has_its_cause, too_long_is_longer}
+use Rattle.st_top.proofs.ReadingLemmas.{each_ok, each_err, told_journal_has_its_cause, too_long_is_longer}
 use Rattle.st_top.proofs.journals.read_journal.Goals as goal
 
 pub returns-in-Ok-clause-read : goal.returns-in-Ok-clause-read
 returns-in-Ok-clause-read g c =
     let read = rw c.deref.ensures.value at c.parse_journal.ensures.read in
-    each_ok c.parse_journal.result _ _ (λ file h. holds_of_told _ _ (λ (text : List ℕ). IsJournalOf text file) c.in-Ok.ensures.whole h) read
+    each_ok c.parse_journal.result _ _ (λ file h. record { text = c.read_whole.new.into.items; spelled = h; told = c.in-Ok.ensures.whole }) read
 
 pub returns-in-Ok-clause-cause : goal.returns-in-Ok-clause-cause
 returns-in-Ok-clause-cause g c =

@@ -1,9 +1,9 @@
 use Rattle.std.proofs.Common.{◌≡◌, sym, ◌∙◌}
 use Rattle.st_events.specs.Terms.{ShapeLists}
-use Rattle.st_program.specs.Terms.{Program as Numbers}
-use Rattle.st_program.specs.Views.{program_of}
-use Rattle.st_schedule.specs.Runs.{scheduled_run}
-use Rattle.st_threads.specs.Right.{IsRightRun}
+use Rattle.st_resolved.specs.Terms.{Program as Numbers}
+use Rattle.st_resolved.specs.Views.{program_of}
+use Rattle.st_run_meaning.specs.Runs.{scheduled_run}
+use Rattle.st_thread_meaning.specs.Right.{IsRightRun}
 use Rattle.st_top.proofs.DoingLemmas.{holds_of_tree, run_has_used_args, run_is_short}
 use Rattle.st_top.proofs.ProgramLemmas.{numbers_have_the_threads}
 use Rattle.st_top.proofs.ReadingLemmas.{each_ok}

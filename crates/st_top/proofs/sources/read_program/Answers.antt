@@ -1,12 +1,10 @@
-use Rattle.std.proofs.Common.{ℕ, List}
-use Rattle.st_source.specs.Accepted.{IsSourceOf}
-use Rattle.st_top.proofs.ReadingLemmas.{each_ok, each_err, holds_of_told, told_text_has_its_cause, too_long_is_longer}
+use Rattle.st_top.proofs.ReadingLemmas.{each_ok, each_err, told_text_has_its_cause, too_long_is_longer}
 use Rattle.st_top.proofs.sources.read_program.Goals as goal
 
 pub returns-in-Ok-clause-accepted : goal.returns-in-Ok-clause-accepted
 returns-in-Ok-clause-accepted g c =
     let source = rw c.deref.ensures.value at c.type_source.ensures.accepted in
-    each_ok c.type_source.result _ _ (λ typed h. holds_of_told _ _ (λ (text : List ℕ). IsSourceOf text typed.program) c.in-Ok.ensures.whole h) source
+    each_ok c.type_source.result _ _ (λ typed h. record { text = c.read_whole.new.into.items; spelled = h; told = c.in-Ok.ensures.whole }) source
 
 pub returns-in-Ok-clause-cause : goal.returns-in-Ok-clause-cause
 returns-in-Ok-clause-cause g c =

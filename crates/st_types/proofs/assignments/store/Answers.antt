@@ -1,4 +1,4 @@
-use Rattle.st_program.specs.Views.{command_of}
+use Rattle.st_resolved.specs.Views.{command_of}
 use Rattle.st_types.proofs.CheckedLemmas.{handed_on}
 use Rattle.st_types.proofs.assignments.store.Goals as goal
 

@@ -1,6 +1,6 @@
 use Rattle.std.proofs.Common.{refl, ap, ◌∙◌, map}
 use Rattle.std.proofs.IntoIterSteps.{All-taken}
-use Rattle.st_program.specs.Views.{check_of}
+use Rattle.st_resolved.specs.Views.{check_of}
 use Rattle.st_types.specs.Statements.{Launched}
 use Rattle.st_types.specs.Walks.{launched_of}
 use Rattle.st_types.proofs.OutcomeLemmas.{told_goes}

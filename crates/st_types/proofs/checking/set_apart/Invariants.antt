@@ -1,5 +1,5 @@
 use Rattle.std.proofs.Common.{◌≡◌, map}
-use Rattle.st_program.specs.Views.{check_of}
+use Rattle.st_resolved.specs.Views.{check_of}
 use Rattle.st_types.specs.Walks.{launched_of}
 use Rattle.st_types.proofs.checking.set_apart.Given as goal
 

@@ -1,5 +1,5 @@
 use Rattle.std.proofs.Common.{ap, sym, ◌∙◌, map}
-use Rattle.st_program.specs.Views.{predicate_of, term_of}
+use Rattle.st_resolved.specs.Views.{predicate_of, term_of}
 use Rattle.st_types.specs.Scopes.{local_view}
 use Rattle.st_types.specs.Typing.{seen_of}
 use Rattle.st_types.proofs.CheckedLemmas.{gives_fault}

@@ -1,5 +1,5 @@
 use Rattle.std.proofs.Common.{map, take}
-use Rattle.st_program.specs.Views.{predicate_of}
+use Rattle.st_resolved.specs.Views.{predicate_of}
 use Rattle.st_types.specs.Rules.{pred_faults, predicate_at}
 use Rattle.st_types.proofs.CheckedLemmas.{gives_fault, no_faults, value_is}
 use Rattle.st_types.proofs.EarlierLemmas.{earlier_passes, mapped_goes, preds_fail, preds_are}

@@ -1,5 +1,5 @@
 use Rattle.std.proofs.Common.{◌≡◌, [], map, take, drop}
-use Rattle.st_program.specs.Views.{predicate_of}
+use Rattle.st_resolved.specs.Views.{predicate_of}
 use Rattle.st_types.specs.Rules.{each_with_earlier, pred_faults, predicate_at}
 use Rattle.st_types.proofs.predicates.predicates.Given as goal
 

@@ -1,5 +1,5 @@
 use Rattle.std.proofs.Common.{◌≡◌, [], map, take, drop}
-use Rattle.st_program.specs.Views.{routine_of}
+use Rattle.st_resolved.specs.Views.{routine_of}
 use Rattle.st_types.specs.Limits.{HasRoomFor, proc_tally}
 use Rattle.st_types.specs.Routines.{routed_all}
 use Rattle.st_types.specs.Rules.{walk_routines, walk_proc}

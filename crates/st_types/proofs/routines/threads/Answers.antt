@@ -1,5 +1,5 @@
 use Rattle.std.proofs.Common.{map}
-use Rattle.st_program.specs.Views.{routine_of}
+use Rattle.st_resolved.specs.Views.{routine_of}
 use Rattle.st_types.specs.Limits.{thread_tally}
 use Rattle.st_types.specs.Routines.{routed_all_at}
 use Rattle.st_types.specs.Rules.{walk_thread}

@@ -1,7 +1,7 @@
 use Rattle.std.proofs.Common.{◌+◌, ◌++◌, ◌∷◌, [], Some, sym, ◌∙◌, ap, map, drop, get_or, arith}
 use Rattle.std.proofs.lemmas.List.{map-append}
 use Rattle.st_ast.specs.declared.statements.Stmt.TheVariants as stmts
-use Rattle.st_program.specs.Views.{command_of}
+use Rattle.st_resolved.specs.Views.{command_of}
 use Rattle.st_types.specs.Stepwise.{step}
 use Rattle.st_types.specs.Tallies.{tally_all, tally}
 use Rattle.st_types.specs.Scopes.{scope_view}

@@ -1,5 +1,5 @@
 use Rattle.std.proofs.Common.{◌≡◌, ◌+◌, ◌*◌, map, drop}
-use Rattle.st_program.specs.Views.{command_of}
+use Rattle.st_resolved.specs.Views.{command_of}
 use Rattle.st_types.specs.Stepwise.{step, step_all}
 use Rattle.st_types.specs.Tallies.{tally_all}
 use Rattle.st_types.specs.Walks.{reached_of, HasRoom}

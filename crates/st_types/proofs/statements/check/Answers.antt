@@ -1,4 +1,4 @@
-use Rattle.st_program.specs.Views.{term_of}
+use Rattle.st_resolved.specs.Views.{term_of}
 use Rattle.std.proofs.Common.{ap}
 use Rattle.st_types.specs.Typing.{seen_of}
 use Rattle.st_types.specs.Walks.{stepped_at}

@@ -1,5 +1,5 @@
 use Rattle.std.proofs.Common.{refl}
-use Rattle.st_program.specs.Views.{program_of}
+use Rattle.st_resolved.specs.Views.{program_of}
 use Rattle.st_eval.specs.Evaluations.{budget}
 use Rattle.st_eval.proofs.EvalLemmas.{paused_room, next_turns, end_turns, answers_in_order}
 use Rattle.st_eval.proofs.evals.Eval.next.Goals as goal

@@ -1,5 +1,5 @@
 use Rattle.std.proofs.Common.{◌≡◌}
-use Rattle.st_program.specs.Views.{program_of}
+use Rattle.st_resolved.specs.Views.{program_of}
 use Rattle.st_eval.specs.Evaluations.{words_of, begun, budget}
 use Rattle.st_eval.specs.Steps.{span_of}
 use Rattle.st_eval.proofs.EvalLemmas.{started, start_keeps, start_budget, start_turns, start_order}

@@ -1,5 +1,5 @@
 use Rattle.std.proofs.Common.{◌∙◌, sym, subst}
-use Rattle.st_program.specs.Views.{program_of}
+use Rattle.st_resolved.specs.Views.{program_of}
 use Rattle.st_eval.specs.Bodies.{IsCodeOf}
 use Rattle.st_eval.proofs.BodyLemmas.{code_made}
 use Rattle.st_eval.proofs.program_codes.ProgramCode.make.Goals as goal

@@ -1,5 +1,5 @@
 use Rattle.std.proofs.Common.{take, ◌∙◌, ap}
-use Rattle.st_program.specs.declared.limits.TheConstants.{MOST_LOCALS}
+use Rattle.st_resolved.specs.declared.limits.TheConstants.{MOST_LOCALS}
 use Rattle.st_mutator.proofs.LocalsLemmas.{first_of_filled}
 use Rattle.st_mutator.proofs.locals.Locals.begin.Goals as goal
 

@@ -1,7 +1,7 @@
 use Rattle.std.proofs.Common.{ℕ, List, Option, Some, None, sym, ◌∙◌, ap, subst, ◌≡◌, ◌<◌, ◌≤◌, length, arith}
 use Rattle.std.specs.Prelude.{slice_get}
 use Rattle.st_events.specs.declared.verdicts.End.TheVariants.{EventsSpent, ProcDeep}
-use Rattle.st_threads.specs.declared.limits.TheConstants.{MOST_OPEN_CALLS}
+use Rattle.st_thread_meaning.specs.declared.limits.TheConstants.{MOST_OPEN_CALLS}
 use Rattle.st_mutator.specs.declared.asking.Asked.TheVariants as asked
 use Rattle.st_mutator.specs.declared.machines.Machine.{Machine}
 use Rattle.st_mutator.specs.declared.nodes.Entry.{Entry}

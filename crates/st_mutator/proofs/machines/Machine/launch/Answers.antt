@@ -1,7 +1,7 @@
 use Rattle.std.proofs.Common.{false, [], refl, ap, reverse, take}
 use Rattle.st_events.specs.declared.events.Args.{Args}
-use Rattle.st_threads.specs.Deeds.{launch}
-use Rattle.st_threads.specs.Statements.{args_of}
+use Rattle.st_thread_meaning.specs.Deeds.{launch}
+use Rattle.st_thread_meaning.specs.Statements.{args_of}
 use Rattle.st_mutator.specs.Stacked.{Stacked}
 use Rattle.std.proofs.Common.{ℕ}
 use Rattle.st_mutator.proofs.EventLemmas.{event_step}

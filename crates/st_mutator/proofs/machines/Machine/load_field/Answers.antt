@@ -1,5 +1,5 @@
 use Rattle.std.proofs.Common.{ℕ, true, refl, ap}
-use Rattle.st_threads.specs.Deeds.{load}
+use Rattle.st_thread_meaning.specs.Deeds.{load}
 use Rattle.st_mutator.specs.Stacked.{top, below}
 use Rattle.st_mutator.specs.Standing.{means_of, going_in, rest_of, told_operands}
 use Rattle.st_mutator.proofs.EventLemmas.{field_event_step, field_known}

@@ -1,5 +1,5 @@
 use Rattle.std.proofs.Common.{true, refl, subst}
-use Rattle.st_threads.specs.Deeds.{make, Deed}
+use Rattle.st_thread_meaning.specs.Deeds.{make, Deed}
 use Rattle.st_mutator.specs.Standing.{IsStep, means_of, going_in, rest_of, told_operands, work_of}
 use Rattle.st_mutator.proofs.EventLemmas.{new_known}
 use Rattle.st_mutator.proofs.machines.Machine.make_object.Goals as goal

@@ -1,5 +1,5 @@
 use Rattle.std.proofs.Common.{ℕ, ◌<◌, ◌≡◌, length, Some, None, sym, ◌∙◌, ap, subst, arith}
-use Rattle.st_threads.specs.Deeds.{Deed}
+use Rattle.st_thread_meaning.specs.Deeds.{Deed}
 use Rattle.st_mutator.specs.declared.nodes.Next.{Next}
 use Rattle.st_mutator.specs.Standing.{IsStep, work_of, rank}
 use Rattle.st_mutator.proofs.CallLemmas.{deed_at, node_is_there}

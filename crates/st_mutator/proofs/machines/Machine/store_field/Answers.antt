@@ -1,5 +1,5 @@
 use Rattle.std.proofs.Common.{ℕ, false, refl, ◌∙◌, ap, ◌≡◌}
-use Rattle.st_threads.specs.Deeds.{store}
+use Rattle.st_thread_meaning.specs.Deeds.{store}
 use Rattle.st_mutator.specs.declared.machines.Machine.{Machine}
 use Rattle.st_mutator.specs.Stacked.{top, below}
 use Rattle.st_mutator.specs.Standing.{means_of, going_in, rest_of, told_operands, with_operands}

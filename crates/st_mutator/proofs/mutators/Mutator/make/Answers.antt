@@ -1,6 +1,6 @@
 use Rattle.std.proofs.Common.{ℕ, [], sym, ◌∙◌, ap, subst, ◌≡◌, ◌≤◌}
-use Rattle.st_program.specs.declared.limits.TheConstants.{MOST_LOCALS}
-use Rattle.st_program.specs.Views.{program_of}
+use Rattle.st_resolved.specs.declared.limits.TheConstants.{MOST_LOCALS}
+use Rattle.st_resolved.specs.Views.{program_of}
 use Rattle.st_mutator.specs.declared.machines.Machine.{Machine}
 use Rattle.st_mutator.specs.Laying.{LaidProgram, lay_program}
 use Rattle.st_mutator.specs.Mutators.{IsBetweenCalls, HasHad, begun}

@@ -1,5 +1,5 @@
 use Rattle.std.proofs.Common.{ap, ◌∙◌}
-use Rattle.st_syntax.specs.Terminals.{next_sort}
+use Rattle.st_grammar.specs.Terminals.{next_sort}
 use Rattle.st_parse.proofs.cursors.Cursor.next_sort.Goals as goal
 
 pub returns : goal.returns

@@ -1,6 +1,6 @@
 use Rattle.std.proofs.Common.{◌≡◌, ◌+◌, suc, [], drop, length, Ok, Err, refl, sym, ap, subst, ◌∙◌, arith}
-use Rattle.st_syntax.specs.Terminals.{next_sort, terminal_of, terminals_of}
-use Rattle.st_reading.specs.Reading.{take_any}
+use Rattle.st_grammar.specs.Terminals.{next_sort, terminal_of, terminals_of}
+use Rattle.st_grammar_laws.specs.Reading.{take_any}
 use Rattle.st_parse.proofs.CursorLemmas.{from_token, past_tokens, next_taken}
 use Rattle.st_parse.proofs.cursors.Cursor.take.Goals as goal
 

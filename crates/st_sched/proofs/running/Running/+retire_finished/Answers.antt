@@ -1,6 +1,6 @@
 use Rattle.std.proofs.Common.{◌≡◌, ℕ, ◌+◌, ◌<◌, true, false, List, [], ◌∷◌, length, drop, slice_get, Some, sym, ◌∙◌, ap, subst, arith}
 use Rattle.std.proofs.lemmas.Option.{slice_get-get_or}
-use Rattle.st_schedule.specs.States.{State}
+use Rattle.st_run_meaning.specs.States.{State}
 use Rattle.st_sched.specs.declared.checks.ActiveCheck.{ActiveCheck}
 use Rattle.st_sched.specs.Checks.{is_over}
 use Rattle.st_sched.specs.Standing.{finished_in, number_at}

@@ -1,7 +1,7 @@
 use Rattle.std.proofs.Common.{ℕ, Some, refl, sym, ◌∙◌, ap, subst, arith}
 use Rattle.std.specs.List.{All}
 use Rattle.std.proofs.lemmas.List.Elements.{All-pop}
-use Rattle.st_program.specs.Views.{program_of}
+use Rattle.st_resolved.specs.Views.{program_of}
 use Rattle.st_events.specs.declared.events.Event.TheVariants.{Launch}
 use Rattle.st_snap.specs.declared.lanes.Lane.{Lane}
 use Rattle.st_snap.specs.Snapshots.{IsLaneOf, with_event}

@@ -2,8 +2,8 @@ use Rattle.std.proofs.Common.{◌≡◌, ◌-◌, [], ◌++◌, length, map, ◌
 use Rattle.st_events.specs.Terms.{kept_rows}
 use Rattle.st_mutator.specs.Mutators.{turn_of_want}
 use Rattle.st_snap.specs.Snapshots.{Snapshots, rows_now}
-use Rattle.st_schedule.specs.Runs.{end_of}
-use Rattle.st_schedule.specs.Steps.{retires}
+use Rattle.st_run_meaning.specs.Runs.{end_of}
+use Rattle.st_run_meaning.specs.Steps.{retires}
 use Rattle.st_sched.specs.declared.seats.Seat.{Seat}
 use Rattle.st_sched.specs.Standing.{finished_in, heap_of_journal}
 use Rattle.st_sched.proofs.EndLemmas.{way_is_under_way, ran_is_left}

@@ -1,8 +1,8 @@
 use Rattle.std.proofs.Common.{◌≡◌, ◌<◌, length, Some, None, refl, sym, ◌∙◌, ap, subst, arith}
 use Rattle.std.specs.Option.{option_map}
-use Rattle.st_program.specs.Views.{program_of}
-use Rattle.st_schedule.specs.Agents.{mutator, check, next_agent}
-use Rattle.st_schedule.specs.Steps.{turn_of}
+use Rattle.st_resolved.specs.Views.{program_of}
+use Rattle.st_run_meaning.specs.Agents.{mutator, check, next_agent}
+use Rattle.st_run_meaning.specs.Steps.{turn_of}
 use Rattle.st_snap.specs.Snapshots.{Snapshots}
 use Rattle.st_sched.specs.declared.agents.Agent.TheVariants.{Mutator, Check}
 use Rattle.st_sched.specs.declared.running.Running.{Running}

@@ -1,8 +1,8 @@
 use Rattle.std.proofs.Common.{◌≡◌}
 use Rattle.st_events.specs.declared.limits.Sizes.{Sizes}
 use Rattle.st_events.specs.Terms.{ShapeLists}
-use Rattle.st_program.specs.Views.{program_of}
-use Rattle.st_schedule.specs.States.{State}
+use Rattle.st_resolved.specs.Views.{program_of}
+use Rattle.st_run_meaning.specs.States.{State}
 use Rattle.st_sched.specs.UnderWay.{IsOnTheWay}
 use Rattle.st_sched.proofs.GoLemmas.{reads_in_memory}
 use Rattle.st_sched.proofs.running.Running.go_on.Given as goal

@@ -1,5 +1,5 @@
 use Rattle.std.proofs.Common.{ap, arith}
-use Rattle.st_program.specs.Views.{program_of}
+use Rattle.st_resolved.specs.Views.{program_of}
 use Rattle.st_snap.specs.Snapshots.{Snapshots}
 use Rattle.st_sched.specs.Standing.{finished_in}
 use Rattle.st_sched.proofs.BeginLemmas.{can_launch_after, fresh_after}

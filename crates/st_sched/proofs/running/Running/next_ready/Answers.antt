@@ -1,6 +1,6 @@
 use Rattle.std.proofs.Common.{◌≡◌, ℕ, ◌<◌, ◌/◌, ◌%◌, ◌^◌, List, [], ◌++◌, length, Some, slice_get, sym, ◌∙◌, ap, arith}
 use Rattle.std.proofs.lemmas.Option.{slice_get-get_or}
-use Rattle.st_schedule.specs.declared.limits.TheConstants.{LOW_BITS}
+use Rattle.st_run_meaning.specs.declared.limits.TheConstants.{LOW_BITS}
 use Rattle.st_sched.specs.declared.agents.Agent.{Agent}
 use Rattle.st_sched.specs.Choosing.{ready_seats, ready_checks, has_room, all_ready, chosen_of}
 use Rattle.st_sched.proofs.ChoiceLemmas.{ready_seats_are_few, none_taken}

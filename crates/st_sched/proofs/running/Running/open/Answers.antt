@@ -1,5 +1,5 @@
 use Rattle.std.proofs.Common.{refl, arith}
-use Rattle.st_program.specs.Views.{program_of}
+use Rattle.st_resolved.specs.Views.{program_of}
 use Rattle.st_mutator.proofs.FewLemmas.{well_formed_has_few_locals}
 use Rattle.st_sched.proofs.OpenLemmas.{opened_is_on_the_way}
 use Rattle.st_sched.proofs.running.Running.open.Goals as goal

@@ -1,6 +1,6 @@
 use Rattle.std.proofs.Common.{◌≡◌, refl, sym, ◌∙◌, subst, arith}
 use Rattle.std.proofs.lemmas.Option.{slice_get_within, get_or_from_slice_get}
-use Rattle.st_program.specs.Views.{program_of}
+use Rattle.st_resolved.specs.Views.{program_of}
 use Rattle.st_sched.specs.declared.seats.Seat.{Seat}
 use Rattle.st_sched.specs.Seats.{HasReplies}
 use Rattle.st_sched.proofs.TurnLemmas.{answer_fits, answer_stands, answer_seats}

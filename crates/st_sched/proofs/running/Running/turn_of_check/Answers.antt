@@ -1,7 +1,7 @@
 use Rattle.std.proofs.Common.{◌≡◌, Some, slice_get, true, refl, sym, ◌∙◌, ap}
 use Rattle.std.proofs.lemmas.Option.{slice_get-get_or}
-use Rattle.st_program.specs.Views.{program_of}
-use Rattle.st_schedule.specs.Agents.{check}
+use Rattle.st_resolved.specs.Views.{program_of}
+use Rattle.st_run_meaning.specs.Agents.{check}
 use Rattle.st_sched.specs.Checks.{is_over}
 use Rattle.st_sched.specs.Standing.{number_at}
 use Rattle.st_sched.proofs.CheckTurnLemmas.{read_fits, read_stands, turn_is_not_over}

@@ -1,7 +1,7 @@
 use Rattle.std.proofs.Common.{◌≡◌, List, length, Some, slice_get, slice_set, refl, sym, ◌∙◌, ap, subst, arith}
 use Rattle.std.proofs.lemmas.Option.{slice_get_within, get_or_from_slice_get}
-use Rattle.st_program.specs.Views.{program_of}
-use Rattle.st_schedule.specs.Agents.{mutator}
+use Rattle.st_resolved.specs.Views.{program_of}
+use Rattle.st_run_meaning.specs.Agents.{mutator}
 use Rattle.st_sched.specs.declared.seats.Seat.{Seat}
 use Rattle.st_sched.specs.Seats.{HasReplies}
 use Rattle.st_sched.specs.UnderWay.{AreSeats}

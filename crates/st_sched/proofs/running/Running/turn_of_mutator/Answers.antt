@@ -1,6 +1,6 @@
 use Rattle.std.proofs.Common.{◌≡◌, Some, slice_get, refl, sym, ◌∙◌, ap, arith}
 use Rattle.std.proofs.lemmas.Option.{slice_get-get_or}
-use Rattle.st_program.specs.Views.{program_of}
+use Rattle.st_resolved.specs.Views.{program_of}
 use Rattle.st_sched.proofs.TurnLemmas.{plain_if_no_launch, seat_is_there}
 use Rattle.st_sched.proofs.running.Running.turn_of_mutator.Goals as goal
 

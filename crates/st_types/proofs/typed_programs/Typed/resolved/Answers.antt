@@ -1,6 +1,6 @@
 use Rattle.std.proofs.Common.{subst}
-use Rattle.st_program.specs.Views.{program_of}
-use Rattle.st_program.specs.WellFormed.{IsWellFormed}
+use Rattle.st_resolved.specs.Views.{program_of}
+use Rattle.st_resolved.specs.WellFormed.{IsWellFormed}
 use Rattle.st_types.specs.TypedPrograms.{TypedView}
 use Rattle.st_types.proofs.FormedLemmas.{typed_well_formed}
 use Rattle.st_types.proofs.typed_programs.Typed.resolved.Goals as goal

@@ -1,5 +1,5 @@
 use Rattle.std.proofs.Common.{length, ap, ◌∙◌}
-use Rattle.st_program.specs.Views.{program_of}
+use Rattle.st_resolved.specs.Views.{program_of}
 use Rattle.st_types.specs.TypedPrograms.{TypedView}
 use Rattle.st_types.proofs.FormedLemmas.{threads_are}
 use Rattle.st_types.proofs.typed_programs.Typed.threads.Goals as goal

@@ -1,4 +1,0 @@
-pub mod MentionLemmas
-pub mod TallyLemmas
-pub mod PlaceLemmas
-pub mod WithinLemmas

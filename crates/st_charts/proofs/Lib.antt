@@ -1,0 +1,4 @@
+pub mod ReadLemmas
+pub mod SampleLemmas
+pub mod FaultLemmas
+pub mod ReaderLemmas

@@ -1,0 +1,4 @@
+pub mod Charts
+pub mod Checks
+pub mod Reads
+pub mod Texts

@@ -1,5 +1,0 @@
-use Rattle.st_counts.proofs.FewLemmas.{few_of_each}
-use Rattle.st_counts.proofs.laws.few_of_each.Goals as goal
-
-pub returns : goal.returns
-returns c = few_of_each

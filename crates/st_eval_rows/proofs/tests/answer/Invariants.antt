@@ -1,7 +1,0 @@
-use Rattle.st_program.specs.Views.{program_of}
-use Rattle.st_eval.specs.Evaluations.{IsMadeFor}
-use Rattle.st_eval_rows.proofs.tests.answer.Given as goal
-
--- the evaluator stays the program's
-abbrev pub invariant-loop-cell : goal.invariant-loop-cell
-invariant-loop-cell l = IsMadeFor (program_of l.program) l.eval

@@ -1,7 +1,0 @@
-use Rattle.std.proofs.Common.{◌≡◌, ◌++◌, take}
-use Rattle.std.specs.List.{flat_map}
-use Rattle.st_syntax.specs.Counts as spec
-use Rattle.st_syntax.proofs.items.+stmts.Given as goal
-
-abbrev pub invariant-add_stmts-loop-stmt : goal.invariant-add_stmts-loop-stmt
-invariant-add_stmts-loop-stmt l = l.items.items ≡ l.initial.items.items ++ flat_map spec.stmt_items (take l.stmt-index l.stmts)

@@ -1,7 +1,0 @@
-use Rattle.std.proofs.Common.{◌≡◌, ◌++◌, take}
-use Rattle.std.specs.List.{flat_map}
-use Rattle.st_syntax.specs.Counts as spec
-use Rattle.st_syntax.proofs.items.add_fields.Given as goal
-
-abbrev pub invariant-loop-field : goal.invariant-loop-field
-invariant-loop-field l = l.items.items ≡ l.initial.items.items ++ flat_map spec.field_items (take l.field-index l.fields)

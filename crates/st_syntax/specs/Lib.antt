@@ -1,9 +1,0 @@
-pub mod Counts
-pub mod FirstFault
-pub mod Firsts
-pub mod Grammar
-pub mod Mentions
-pub mod Operators
-pub mod Sorts
-pub mod Terminals
-pub mod TokenLimits
