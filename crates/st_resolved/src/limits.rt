@@ -11,9 +11,4 @@ pub const MOST_PARAMS: usize = 8;
 pub const MOST_LOCALS: usize = 32;
 
 // Code and definitions take the same four numbers: a changed one is refused here.
-const _: () = prove!(
-    MOST_PREDS == 64
-        && MOST_PROCS == 64
-        && MOST_PARAMS == 8
-        && MOST_LOCALS == 32
-);
+const _: () = prove!(MOST_PREDS == 64 && MOST_PROCS == 64 && MOST_PARAMS == 8 && MOST_LOCALS == 32);

@@ -9,8 +9,10 @@ returns-in-Err-clause-cause g c = inl (rw c.as_str.ensures at c.in-Err.ensures.c
 
 pub returns-clause-cause : goal.returns-clause-cause
 returns-clause-cause g c =
-    inr (source_is_accepted _ c.in-Ok.typed.program (rw c.as_str.ensures at c.in-Ok.ensures.accepted),
-    later_cause_is_a_cause _ _ _ _ _ c.read_program.ensures.files (rw c.as_str-2.ensures at c.in-Err-read_journal.ensures.cause))
+    inr (
+      source_is_accepted _ c.in-Ok.typed.program (rw c.as_str.ensures at c.in-Ok.ensures.accepted),
+      later_cause_is_a_cause _ _ _ _ _ c.read_program.ensures.files (rw c.as_str-2.ensures at c.in-Err-read_journal.ensures.cause),
+    )
 
 pub returns-clause-files : goal.returns-clause-files
 returns-clause-files g c = go_on_twice c.read_program.ensures.files c.read_journal.ensures.files
