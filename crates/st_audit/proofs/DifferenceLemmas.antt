@@ -14,7 +14,7 @@ use Rattle.st_thread_meaning.specs.Deeds.{make, load, store, cas, launch}
 use Rattle.st_thread_meaning.specs.Threads.{Turn, asks_for, has_ended, next_request, reply_of, IsAnswerTo, LeadTo, Follows}
 use Rattle.st_thread_meaning.specs.Laws.{replies_of}
 use Rattle.st_thread_meaning.proofs.FollowLemmas.{events_lead_by_replies}
-use Rattle.st_thread_meaning.proofs.MeansLemmas.{threads_keep_within_means}
+use Rattle.st_thread_meaning.proofs.MeansLemmas.{events_are_within_charge}
 use Rattle.st_mutator.specs.Mutators.{Mutating, HasHad, narrow, narrowed, turn_of_want, replies_in}
 use Rattle.st_mutator.specs.declared.wants.Want.{Want}
 use Rattle.st_audit.specs.Differences.{Differs, IsFirstDifference, IsTrace, NamesSmall, is_end}
@@ -235,7 +235,7 @@ pub own_within_charge :
     → IsFollowed p sizes thread own m want
     → length own ≤ sizes.events
 own_within_charge p sizes thread own m want was =
-    let paid = threads_keep_within_means.charge p sizes thread own (next_request p sizes thread (replies_of own)) was.leads in omega (arith, paid)
+    let paid = events_are_within_charge p sizes thread own (next_request p sizes thread (replies_of own)) was.leads in omega (arith, paid)
 
 -- ---- the loop
 

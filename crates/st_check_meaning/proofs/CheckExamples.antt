@@ -2,9 +2,9 @@
 use Rattle.std.proofs.Common.{◌≡◌, ℕ, [], ◌∷◌, Option, Some, None, ℤ, pos, refl}
 use Rattle.st_events.specs.declared.events.Site.{Site}
 use Rattle.st_events.specs.declared.shapes.Kind.TheVariants.{Int, Bool as Truth, Ref}
-use Rattle.st_events.specs.declared.verdicts.Plain.TheVariants.{Holds, Fails, Null, Spent, Deep}
+use Rattle.st_events.specs.declared.verdicts.Plain.TheVariants.{Holds, Fails, Null, Divide, Spent, Deep}
 use Rattle.st_events.specs.Heap.{Heap, Object, heap_of}
-use Rattle.st_resolved.specs.declared.expressions.Operator.TheVariants.{Sub, LessEq, Equal}
+use Rattle.st_resolved.specs.declared.expressions.Operator.TheVariants.{Sub, Div, LessEq, Equal}
 use Rattle.st_resolved.specs.Terms.{Term, a_number, a_null, a_local, a_field, a_binary, a_both, an_either, a_call}
 use Rattle.st_resolved.specs.Terms.{no_terms, term_then, Predicate, CheckStatement, Program}
 use Rattle.st_check_meaning.specs.Meaning.{call_within}
@@ -131,3 +131,31 @@ deep_before_spent = refl
 spent_at_the_last : plain_value (check_of_down (pos 4097)) in_order 0 [] 4095 ≡ Spent
 unfolding plain_value check_course call_within
 spent_at_the_last = refl
+
+-- `pred edge(k: int): bool = edge(k - (k - 1) / (k - 1));`: its argument is one less, and for 1 it faults
+abbrev one_below : Term
+one_below = a_binary Sub (a_local 0) (a_number (pos 1)) (at_place 1 6)
+
+abbrev edge : Predicate
+edge = record {
+  params = Int ∷ [];
+  result = Truth;
+  body = a_call 0 (term_then (a_binary Sub (a_local 0) (a_binary Div one_below one_below (at_place 1 7)) (at_place 1 5)) no_terms);
+}
+
+-- `check edge(k);` for a number
+abbrev check_of_edge : ℤ → Program
+check_of_edge k = record { preds = edge ∷ []; procs = []; threads = []; checks = statement (a_call 0 (term_then (a_number k) no_terms)) ∷ [] }
+
+-- an argument that faults where no more calls may be open is told as its fault, and so it is where no unit is left
+argument_before_deep : plain_value (check_of_edge (pos 4096)) in_order 0 [] 4096 ≡ Divide (at_place 1 7)
+unfolding plain_value check_course call_within
+argument_before_deep = refl
+
+deep_after_an_argument : plain_value (check_of_edge (pos 4097)) in_order 0 [] 4096 ≡ Deep
+unfolding plain_value check_course call_within
+deep_after_an_argument = refl
+
+argument_before_spent : plain_value (check_of_edge (pos 1)) in_order 0 [] 1 ≡ Divide (at_place 1 7)
+unfolding plain_value check_course call_within
+argument_before_spent = refl

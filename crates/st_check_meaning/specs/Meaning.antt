@@ -83,7 +83,8 @@ abbrev pub body_course : Calls → Option Predicate → List ℕ → Course ℕ
 body_course calls None words = comes_to 0
 body_course calls (Some pred) words = course_of calls pred.body words
 
--- A call where so many more may be open: too deep where none may; else it uses a unit of the budget, and the body is evaluated.
+-- A call where so many more may be open: too deep where none may; else it uses a unit of the budget, and the body is evaluated. Its arguments
+-- were evaluated before (`a_call` of `course_of`): so a fault of theirs comes before Deep, and Deep before Spent.
 unfoldable pub call_within : List Predicate → ℕ → Calls
 call_within preds zero pred words = ends_in Deep
 call_within preds (suc depth) pred words = uses_unit (λ _. body_course (call_within preds depth) (slice_get preds pred) words)

@@ -3,8 +3,7 @@ ghost use Rattle.std.specs.Prelude.{◌≡◌};
 ghost use Rattle.st_thread_meaning.specs.Deeds.{Request, cost_of as cost_of_request};
 ghost use Rattle.st_thread_meaning.specs.Threads.{asks_for};
 
-use st_events::{Args, End};
-use st_thread_meaning::{EVENT_COST, LAUNCH_COST};
+use st_events::{Args, EVENT_COST, End, LAUNCH_COST};
 
 /// What a thread asks for, or how it ended. An object is the word that names it.
 #[derive(Clone, Copy, Debug)]

@@ -15,7 +15,7 @@ use Rattle.st_check_meaning.specs.Plain.{Cell}
 use Rattle.st_thread_meaning.specs.Deeds.{Request}
 use Rattle.st_thread_meaning.specs.Threads.{Turn, asks_for, has_ended}
 use Rattle.st_thread_meaning.proofs.FollowLemmas.{events_lead_by_replies}
-use Rattle.st_thread_meaning.proofs.MeansLemmas.{threads_keep_within_means}
+use Rattle.st_thread_meaning.proofs.MeansLemmas.{events_are_within_charge}
 use Rattle.st_run_meaning.specs.States.{Progress, has_read, abandoned_at, State, first_state}
 use Rattle.st_run_meaning.specs.Agents.{request_of, cells_of, cell_after, cell_asked, can_launch, can_turn, Agent, mutator, check, next_agent}
 use Rattle.st_run_meaning.specs.Steps.{event_of, one_more, progress_after, turn_of}
@@ -78,7 +78,7 @@ less_events :
 less_events shape p sizes s m request led asked =
     let e = event_of sizes (world_after shape sizes s.journal) m request in
     let own = own_events m (turn_of shape p sizes s (mutator m)).journal in
-    let charge = threads_keep_within_means.charge p sizes m own (request_of p sizes (turn_of shape p sizes s (mutator m)) m) (turn_leads shape p sizes s (mutator m) led m) in
+    let charge = events_are_within_charge p sizes m own (request_of p sizes (turn_of shape p sizes s (mutator m)) m) (turn_leads shape p sizes s (mutator m) led m) in
     let one : length own ≡ length (own_events m s.journal) + 1 = ap length (own_after_turn shape p sizes s m request asked) ∙ length-append (own_events m s.journal) (e ∷ []) in
     omega (arith, charge, one)
 

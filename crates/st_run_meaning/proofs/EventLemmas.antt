@@ -19,7 +19,7 @@ use Rattle.st_check_meaning.specs.Plain.{word_found}
 use Rattle.st_thread_meaning.specs.Deeds.{Request, make, load, store, cas, launch}
 use Rattle.st_thread_meaning.specs.Threads.{Turn, reply_of, LeadTo}
 use Rattle.st_thread_meaning.proofs.MeansLemmas.{threads_keep_within_means}
-use Rattle.st_run_meaning.specs.SafeDeeds.{IsFittingRequest, IsFittingReply}
+use Rattle.st_thread_meaning.specs.Typed.{IsRightRequest, IsRightReply}
 use Rattle.st_run_meaning.specs.Steps.{event_of}
 use Rattle.st_run_meaning.proofs.RetiresLemmas.{with_retired}
 
@@ -39,7 +39,7 @@ some_is_found (Some x) h = refl
 pub event_is_legal :
     (shape : ShapeLists) (sizes : Sizes) (w : World) (m : ℕ) (request : Request)
     → m < sizes.mutators
-    → IsFittingRequest shape w.heap request
+    → IsRightRequest shape w.heap request
     → HasRoomFor sizes w m request
     → IsLegalNext shape sizes w (event_of sizes w m request)
 event_is_legal shape sizes w m (make class) few fits room =
@@ -66,8 +66,8 @@ event_after_retires sizes w ns m (launch site args) = refl
 pub reply_fits :
     (shape : ShapeLists) (sizes : Sizes) (w : World) (m : ℕ) (request : Request)
     → IsTypedHeap shape w.heap
-    → IsFittingRequest shape w.heap request
-    → IsFittingReply shape (next shape sizes w (event_of sizes w m request)).heap request (reply_of (event_of sizes w m request))
+    → IsRightRequest shape w.heap request
+    → IsRightReply shape (next shape sizes w (event_of sizes w m request)).heap request (reply_of (event_of sizes w m request))
 reply_fits shape sizes w m (make class) typed fits =
     ap (option_map (λ (x : Object). x.class)) (object_put_here w.heap (next_object sizes w m) (fresh shape class))
 reply_fits shape sizes w m (load obj field) typed fits = typed.kinds obj field (word_found w.heap obj field) (some_is_found (word_at w.heap obj field) fits)

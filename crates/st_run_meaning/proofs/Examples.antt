@@ -18,20 +18,20 @@ use Rattle.st_thread_meaning.specs.Threads.{call_within, thread_deed, next_reque
 use Rattle.st_run_meaning.specs.Runs.{scheduled_run}
 
 -- a place in a text
-abbrev place : ℕ → ℕ → Site
+abbrev pub place : ℕ → ℕ → Site
 place line n = record { line = line; column = n }
 
 -- the words of arguments: the first so many are used
-abbrev args : ℕ → ℕ → Args
+abbrev pub args : ℕ → ℕ → Args
 args count first = record { count = count; words = first ∷ 0 ∷ 0 ∷ 0 ∷ [] }
 
 -- statements in order
-abbrev block_of : List Command → Block
+abbrev pub block_of : List Command → Block
 block_of [] = no_commands
 block_of (c ∷ cs) = command_then c (block_of cs)
 
 -- a program of threads with one local, a reference
-abbrev program : List (List Command) → List CheckStatement → Program
+abbrev pub program : List (List Command) → List CheckStatement → Program
 program bodies checks = record {
   preds = [];
   procs = [];
@@ -40,16 +40,16 @@ program bodies checks = record {
 }
 
 -- a check statement, with the locals that it takes
-abbrev statement : List ℕ → Term → Site → CheckStatement
+abbrev pub statement : List ℕ → Term → Site → CheckStatement
 statement names body at = record { args = names; body = body; at = at }
 
 -- what the run of a program leaves
-abbrev leaves : ShapeLists → Program → Sizes → ℕ → RanLists
+unfoldable pub leaves : ShapeLists → Program → Sizes → ℕ → RanLists
 unfolding scheduled_run next_request thread_deed call_within check_course plain_value cells_read meaning.call_within
 leaves shape p sizes seed = scheduled_run shape p sizes seed
 
 -- the usual sizes of so many threads, but for lanes and copies
-abbrev sizes : ℕ → ℕ → ℕ → Sizes
+abbrev pub sizes : ℕ → ℕ → ℕ → Sizes
 sizes threads lanes copies = record { mutators = threads; lanes = lanes; objects = 4096; copies = copies; events = 65536; calls = 100000 }
 
 -- ---- `two`: a new object, a check of it, a store. At the third turn the number is odd beyond its low bits, so the check reads first
@@ -75,7 +75,7 @@ two_leaves = refl
 -- ---- `lost`: a check of the shared variable, a store in it, a new object, a check of that. At the second turn the number is even beyond its
 -- low bits, so the store comes before the read; the second launch retires the first check
 
-abbrev lost_shape : ShapeLists
+abbrev pub lost_shape : ShapeLists
 lost_shape = record { classes = (Int ∷ []) ∷ (Int ∷ []) ∷ []; checks = [] ∷ (Ref 1 ∷ []) ∷ [] }
 
 abbrev lost : Program

@@ -2,13 +2,10 @@ pub mod AgentLemmas
 pub mod EndLemmas
 pub mod EventLemmas
 pub mod Examples
-pub mod LaterLemmas
+pub mod OrderExamples
 pub mod OwnLemmas
 pub mod ProgressLemmas
 pub mod RetiresLemmas
 pub mod RoomLemmas
 pub mod RunLemmas
-pub mod SafeCourses
-pub mod SafeDeedLemmas
-pub mod SafeSteps
 pub mod SoundLemmas

@@ -17,7 +17,7 @@ use Rattle.st_events.proofs.LegalEvents.{legal_new, legal_load, legal_store, leg
 use Rattle.st_events.proofs.LegalLemmas.{rest_is_legal}
 use Rattle.st_events.proofs.WorldLemmas.{world_after_one_more}
 use Rattle.st_resolved.specs.Terms.{Program}
-use Rattle.st_thread_meaning.proofs.MeansLemmas.{threads_keep_within_means}
+use Rattle.st_thread_meaning.proofs.MeansLemmas.{events_are_within_charge}
 use Rattle.st_run_meaning.specs.States.{State}
 use Rattle.st_run_meaning.specs.Agents.{request_of}
 use Rattle.st_run_meaning.specs.SoundStates.{IsSoundState}
@@ -188,6 +188,6 @@ sound_state_has_room shape p sizes s h =
     let paid : ArePaid shape sizes s.journal = all_are_paid shape sizes [] s.journal none (rest_is_legal shape sizes [] s.journal h.legal) in
     let most : all_used sizes s.journal ≤ length (range_with_len 0 sizes.mutators) * sizes.events =
     sum_is_at_most (λ m. used m s.journal) (range_with_len 0 sizes.mutators) sizes.events
-    (λ m. threads_keep_within_means.charge p sizes m (own_events m s.journal) (request_of p sizes s m) (h.led m)) in
+    (λ m. events_are_within_charge p sizes m (own_events m s.journal) (request_of p sizes s m) (h.led m)) in
     let count : length (range_with_len 0 sizes.mutators) * sizes.events ≡ sizes.mutators * sizes.events = ap (λ (n : ℕ). n * sizes.events) (length-range_with_len 0 sizes.mutators) in
     record { events = omega (arith, paid.events, most, count); checks = omega (arith, paid.launches, most, count) }

@@ -19,19 +19,19 @@ use Rattle.st_resolved.specs.WellFormed.{IsWellFormed}
 use Rattle.st_thread_meaning.specs.Deeds.{Request, make, load, store, cas, launch, Deed, ends, asks}
 use Rattle.st_thread_meaning.specs.Laws.{replies_of}
 use Rattle.st_thread_meaning.specs.Threads.{Turn, asks_for, has_ended, turn_of as first_of, deed_after, thread_deed, next_request, reply_of, LeadTo}
+use Rattle.st_thread_meaning.specs.Typed.{GoesOn, IsTyped, IsRightRequest, IsRightReply}
 use Rattle.st_thread_meaning.proofs.FollowLemmas.{after_both, events_lead_by_replies}
+use Rattle.st_thread_meaning.proofs.TypedJournals.{deed_stays}
+use Rattle.st_thread_meaning.proofs.TypedStatements.{thread_is_typed}
 use Rattle.st_run_meaning.specs.States.{State, first_state, Progress}
 use Rattle.st_run_meaning.specs.Agents.{request_of, cells_of, cell_asked, has_finished, finished_checks, can_launch, can_turn, Agent, mutator, check}
 use Rattle.st_run_meaning.specs.Steps.{event_of, retires, retired_for, turn_events, progress_after, turn_of}
-use Rattle.st_run_meaning.specs.SafeDeeds.{IsFittingRequest, IsFittingReply, IsLaterHeap, IsSafeDeed}
 use Rattle.st_run_meaning.specs.SoundStates.{deed_of, IsSoundProgress, IsSoundState}
 use Rattle.st_run_meaning.proofs.AgentLemmas.{IsReady}
 use Rattle.st_run_meaning.proofs.EventLemmas.{HasRoomFor, event_is_legal, event_after_retires, reply_fits, room_for_new}
-use Rattle.st_run_meaning.proofs.LaterLemmas.{later_deed_is_safe}
 use Rattle.st_run_meaning.proofs.OwnLemmas.{own_after_turn, others_after_turn, turn_leads}
 use Rattle.st_run_meaning.proofs.ProgressLemmas.{progress_stays, read_keeps_progress}
 use Rattle.st_run_meaning.proofs.RetiresLemmas.{removed, with_retired, world_after_retires, retires_are_legal, removed_are_no_more, removed_are_fewer}
-use Rattle.st_run_meaning.proofs.SafeDeedLemmas.{thread_is_safe}
 
 -- ---- requests
 
@@ -41,26 +41,26 @@ first_is_asked : (p : Program) (sizes : Sizes) (s : State) (m : ℕ) (request : 
 unfolding next_request
 first_is_asked p sizes s m request e = e
 
--- what a safe deed asks for fits
+-- what a typed deed asks for is right
 asked_fits :
     (shape : ShapeLists) (heap : Heap) (deed : Deed) (request : Request)
-    → IsSafeDeed shape heap deed
+    → IsTyped shape deed heap
     → first_of deed ≡ asks_for request
-    → IsFittingRequest shape heap request
+    → IsRightRequest shape heap request
 asked_fits shape heap (ends end) request h e = absurd (cc)
-asked_fits shape heap (asks r rest) request h e = let same : r ≡ request = cc in subst (IsFittingRequest shape heap) same h.0
+asked_fits shape heap (asks r rest) request h e = let same : r ≡ request = cc in subst (IsRightRequest shape heap) same h.0
 
--- after a reply that fits a later heap, what is left is safe on that
-replied_is_safe :
+-- after a reply that fits a later heap, what is left is typed on that
+replied_is_typed :
     (shape : ShapeLists) (heap later : Heap) (deed : Deed) (request : Request) (reply : ℕ)
-    → IsSafeDeed shape heap deed
+    → IsTyped shape deed heap
     → first_of deed ≡ asks_for request
-    → IsLaterHeap shape heap later
-    → IsFittingReply shape later request reply
-    → IsSafeDeed shape later (deed_after (reply ∷ []) deed)
-replied_is_safe shape heap later (ends end) request reply h e l fits = absurd (cc)
-replied_is_safe shape heap later (asks r rest) request reply h e l fits =
-    let same : r ≡ request = cc in h.1 later reply l (subst (λ (x : Request). IsFittingReply shape later x reply) (sym same) fits)
+    → GoesOn shape heap later
+    → IsRightReply shape later request reply
+    → IsTyped shape (deed_after (reply ∷ []) deed) later
+replied_is_typed shape heap later (ends end) request reply h e l fits = absurd (cc)
+replied_is_typed shape heap later (asks r rest) request reply h e l fits =
+    let same : r ≡ request = cc in h.1 later l reply (subst (λ (x : Request). IsRightReply shape later x reply) (sym same) fits)
 
 -- the checks that are retired for a request are active, in order
 retired_are_active :
@@ -129,7 +129,7 @@ has_room shape p formed sizes s m (launch site args) t =
 record Performed (shape : ShapeLists) (p : Program) (sizes : Sizes) (s : State) (m : ℕ) (request : Request) : Type 0 where
   legal : IsLegal shape sizes (turn_of shape p sizes s (mutator m)).journal
   fits :
-      IsFittingReply shape (heap_after shape sizes (turn_of shape p sizes s (mutator m)).journal) request
+      IsRightReply shape (heap_after shape sizes (turn_of shape p sizes s (mutator m)).journal) request
       (reply_of (event_of sizes (world_after shape sizes s.journal) m request))
 
 performed :
@@ -140,7 +140,7 @@ performed :
     → Performed shape p sizes s m request
 performed shape p formed sizes s m request t =
     let sound : IsSoundWorld shape sizes w = legal_is_sound shape sizes formed.shape_fits s.journal t.sound.legal in
-    let fits : IsFittingRequest shape w.heap request = asked_fits shape w.heap (deed_of p sizes s m) request (t.sound.safe m) asked in
+    let fits : IsRightRequest shape w.heap request = asked_fits shape w.heap (deed_of p sizes s m) request (t.sound.typed m) asked in
     let before : IsLegal shape sizes middle =
     retires_are_legal shape sizes s.journal m gone t.sound.legal (omega (arith, t.thread)) (retired_are_rising shape p sizes s request sound.active.rising)
     (λ k h. retired_are_active shape p sizes s request k h) in
@@ -149,12 +149,12 @@ performed shape p formed sizes s m request t =
     let next_is : IsLegalNext shape sizes (world_after shape sizes middle) event =
     subst (λ (v : World). IsLegalNext shape sizes v event) (sym (world_after_retires shape sizes s.journal m gone))
     (subst (IsLegalNext shape sizes (with_retired w gone)) (event_after_retires sizes w gone m request) one) in
-    let reply : IsFittingReply shape (next shape sizes (with_retired w gone) event).heap request (reply_of event) =
-    subst (λ (e : Event). IsFittingReply shape (next shape sizes (with_retired w gone) e).heap request (reply_of e)) (event_after_retires sizes w gone m request)
+    let reply : IsRightReply shape (next shape sizes (with_retired w gone) event).heap request (reply_of event) =
+    subst (λ (e : Event). IsRightReply shape (next shape sizes (with_retired w gone) e).heap request (reply_of e)) (event_after_retires sizes w gone m request)
     (reply_fits shape sizes (with_retired w gone) m request sound.typed fits) in
     record {
       legal = subst (IsLegal shape sizes) (sym whole) (one_more_is_legal shape sizes middle event before next_is);
-      fits = subst (λ (v : World). IsFittingReply shape v.heap request (reply_of event)) (sym after) reply;
+      fits = subst (λ (v : World). IsRightReply shape v.heap request (reply_of event)) (sym after) reply;
     }
   where
     w : World
@@ -191,8 +191,8 @@ pub first_is_sound :
 first_is_sound shape p formed sizes seed = record {
   legal = empty_is_legal shape sizes;
   led = λ thread. events_lead_by_replies.first p sizes thread;
-  safe = λ thread.
-      thread_is_safe shape p formed sizes.objects sizes.events thread (heap_after shape sizes [])
+  typed = λ thread.
+      thread_is_typed shape p formed sizes.objects sizes.events thread (heap_after shape sizes [])
       (legal_is_sound shape sizes formed.shape_fits [] (empty_is_legal shape sizes)).typed;
   progress = λ n. omega arith;
 }
@@ -206,8 +206,8 @@ mutator_keeps_sound :
 mutator_keeps_sound shape p formed sizes s m request t = record {
   legal = done.legal;
   led = turn_leads shape p sizes s (mutator m) t.sound.led;
-  safe = λ thread. elim (eqb_tells thread m) [
-    | inl same ↦ subst (λ (k : ℕ). IsSafeDeed shape (heap_after shape sizes later.journal) (deed_of p sizes later k)) (sym same.1) mine
+  typed = λ thread. elim (eqb_tells thread m) [
+    | inl same ↦ subst (λ (k : ℕ). IsTyped shape (deed_of p sizes later k) (heap_after shape sizes later.journal)) (sym same.1) mine
     | inr differ ↦ others thread differ.1
   ];
   progress = λ n.
@@ -226,7 +226,7 @@ mutator_keeps_sound shape p formed sizes s m request t = record {
     added : List Event
     added = turn_events shape p sizes s m (request_of p sizes s m)
 
-    later_heap : IsLaterHeap shape (heap_after shape sizes s.journal) (heap_after shape sizes later.journal)
+    later_heap : GoesOn shape (heap_after shape sizes s.journal) (heap_after shape sizes later.journal)
     later_heap = record {
       extends = heap_extends shape sizes formed.shape_fits s.journal added done.legal;
       typed = (legal_is_sound shape sizes formed.shape_fits later.journal done.legal).typed;
@@ -235,7 +235,7 @@ mutator_keeps_sound shape p formed sizes s m request t = record {
     asked : first_of (deed_of p sizes s m) ≡ asks_for request
     asked = first_is_asked p sizes s m request t.asked
 
-    mine : IsSafeDeed shape (heap_after shape sizes later.journal) (deed_of p sizes later m)
+    mine : IsTyped shape (deed_of p sizes later m) (heap_after shape sizes later.journal)
     mine =
         let event = event_of sizes (world_after shape sizes s.journal) m request in
         let own = own_events m s.journal in
@@ -244,16 +244,16 @@ mutator_keeps_sound shape p formed sizes s m request t = record {
         let left : deed_of p sizes later m ≡ deed_after (reply_of event ∷ []) (deed_of p sizes s m) =
         ap (λ (rs : List ℕ). deed_after rs (thread_deed p sizes.objects sizes.events m)) replies
         ∙ after_both (replies_of own) (reply_of event ∷ []) (thread_deed p sizes.objects sizes.events m) in
-        subst (IsSafeDeed shape (heap_after shape sizes later.journal)) (sym left)
-        (replied_is_safe shape (heap_after shape sizes s.journal) (heap_after shape sizes later.journal) (deed_of p sizes s m) request (reply_of event) (t.sound.safe m) asked
+        subst (λ (d : Deed). IsTyped shape d (heap_after shape sizes later.journal)) (sym left)
+        (replied_is_typed shape (heap_after shape sizes s.journal) (heap_after shape sizes later.journal) (deed_of p sizes s m) request (reply_of event) (t.sound.typed m) asked
         later_heap done.fits)
 
-    others : (thread : ℕ) → thread ≢ m → IsSafeDeed shape (heap_after shape sizes later.journal) (deed_of p sizes later thread)
+    others : (thread : ℕ) → thread ≢ m → IsTyped shape (deed_of p sizes later thread) (heap_after shape sizes later.journal)
     others thread differ =
         let left : deed_of p sizes later thread ≡ deed_of p sizes s thread =
         ap (λ (es : List Event). deed_after (replies_of es) (thread_deed p sizes.objects sizes.events thread)) (others_after_turn shape p sizes s m thread differ) in
-        subst (IsSafeDeed shape (heap_after shape sizes later.journal)) (sym left)
-        (later_deed_is_safe shape (heap_after shape sizes s.journal) (heap_after shape sizes later.journal) later_heap.extends (deed_of p sizes s thread) (t.sound.safe thread))
+        subst (λ (d : Deed). IsTyped shape d (heap_after shape sizes later.journal)) (sym left)
+        (deed_stays shape (heap_after shape sizes s.journal) (heap_after shape sizes later.journal) (deed_of p sizes s thread) later_heap (t.sound.typed thread))
 
 -- a check has come as far as is said in the journal of a state
 abbrev ComesSoFar : ShapeLists → Program → Sizes → State → ℕ → Progress → Type 0
@@ -266,7 +266,7 @@ check_keeps_sound :
 check_keeps_sound shape p sizes s n h = record {
   legal = h.legal;
   led = h.led;
-  safe = h.safe;
+  typed = h.typed;
   progress = λ k. elim (eqb_tells k n) [
     | inl same ↦ subst (λ (j : ℕ). ComesSoFar shape p sizes s j (at n read s.progress j)) (sym same.1) here
     | inr differ ↦ there k differ.1

@@ -1,7 +1,6 @@
 pub mod Agents
 pub mod Laws
 pub mod Runs
-pub mod SafeDeeds
 pub mod SoundStates
 pub mod States
 pub mod Steps

@@ -114,6 +114,36 @@ loop_of_much_charge : does four_turns 1 65536 [] ≡ has_ended Finished
 unfolding does
 loop_of_much_charge = refl
 
+-- a turn is paid for before its condition: with no charge left it has no load
+abbrev loop_on_a_load : Program
+loop_on_a_load = program [] (a_while (a_binary Less (a_shared 3) (a_number (pos 1)) (column 5)) no_commands ∷ [])
+
+turn_before_load : does loop_on_a_load 1 0 [] ≡ has_ended EventsSpent
+unfolding does
+turn_before_load = refl
+
+-- with charge for the turn alone, the load is what is not paid for
+load_is_spent : does loop_on_a_load 1 1 [] ≡ has_ended EventsSpent
+unfolding does
+load_is_spent = refl
+
+load_of_a_paid_turn : does loop_on_a_load 1 2 [] ≡ asks_for (load 1 3)
+unfolding does
+load_of_a_paid_turn = refl
+
+-- and no fault: `while (1 / 0 == 0)`
+abbrev loop_on_a_fault : Program
+loop_on_a_fault = program []
+    (a_while (a_binary Equal (a_binary Div (a_number (pos 1)) (a_number (pos 0)) (column 5)) (a_number (pos 0)) (column 6)) no_commands ∷ [])
+
+turn_before_fault : does loop_on_a_fault 1 0 [] ≡ has_ended EventsSpent
+unfolding does
+turn_before_fault = refl
+
+fault_of_a_paid_turn : does loop_on_a_fault 1 1 [] ≡ has_ended (Divide (column 5))
+unfolding does
+fault_of_a_paid_turn = refl
+
 -- ---- calls
 
 -- `proc p() { p(); }` and `thread t { p(); }`

@@ -1,13 +1,16 @@
 -- A thread asks for no more than its means pay for
 use Rattle.std.proofs.Common.{◌≡◌, ℕ, zero, suc, ◌+◌, ◌-◌, ◌≤◌, ◌==◌, nat_lt, Bool, true, false, List, [], ◌∷◌, length, filter, refl, subst, arith}
 use Rattle.std.proofs.lemmas.Bool.{ltb-false}
+use Rattle.std.proofs.lemmas.List.Sums.{sum_by-cons}
 use Rattle.std.specs.Prelude.{Option, Some, None, slice_get, slice_set}
 use Rattle.st_events.specs.declared.events.Event.{Event}
 use Rattle.st_events.specs.declared.events.Event.TheVariants.{New, Load, Store, Cas, Launch, Retire}
 use Rattle.st_events.specs.declared.events.Site.{Site}
 use Rattle.st_events.specs.declared.heaps.TheConstants.{SHARED_OBJECT}
+use Rattle.st_events.specs.declared.limits.Sizes.{Sizes}
+use Rattle.st_events.specs.declared.verdicts.End.{End}
 use Rattle.st_events.specs.declared.verdicts.End.TheVariants.{Finished, Null, HeapFull, EventsSpent}
-use Rattle.st_events.specs.History.{is_launch, is_new}
+use Rattle.st_events.specs.History.{charge_of, charge_of_all, is_launch, is_new}
 use Rattle.st_resolved.specs.Terms.{Term, Target, to_shared, to_field, Source, from_term, from_new, from_cas}
 use Rattle.st_resolved.specs.Terms.{Command, a_set, a_put, an_if, a_while, a_proc_call, a_launch, Block, no_commands, command_then, Routine, Program}
 use Rattle.st_check_meaning.specs.Courses.{Course, comes_to, ends_in, reads, uses_unit}
@@ -202,10 +205,24 @@ thread_within p objects events thread =
     body_within p (call_within p MOST_OPEN_CALLS) (calls_within p MOST_OPEN_CALLS) (slice_get p.threads thread) [] (record { charge = events; room = objects })
     (λ _. ends Finished) (λ left. tt)
 
--- what the events cost, each launch counted twice, and how many objects they make
+-- an event takes what the request that it answers costs
+cost_is_charge : (e : Event) (request : Request) → IsAnswerTo e (asks_for request) → charge_of e ≡ cost_of request
+cost_is_charge (New m obj class) request h = let same : make class ≡ request = cc in subst (λ (r : Request). charge_of (New m obj class) ≡ cost_of r) same refl
+cost_is_charge (Load m obj field value) request h =
+    let same : load obj field ≡ request = cc in subst (λ (r : Request). charge_of (Load m obj field value) ≡ cost_of r) same refl
+cost_is_charge (Store m obj field value) request h =
+    let same : store obj field value ≡ request = cc in subst (λ (r : Request). charge_of (Store m obj field value) ≡ cost_of r) same refl
+cost_is_charge (Cas m obj field expect value done) request h =
+    let same : cas obj field expect value ≡ request = cc in subst (λ (r : Request). charge_of (Cas m obj field expect value done) ≡ cost_of r) same refl
+cost_is_charge (Launch m site number args) request h =
+    let same : launch site args ≡ request = cc in subst (λ (r : Request). charge_of (Launch m site number args) ≡ cost_of r) same refl
+cost_is_charge (Retire m number) request h = absurd h
+
+-- how many events these are, each launch counted twice
 abbrev charge_used : List Event → ℕ
 charge_used es = length es + length (filter is_launch es)
 
+-- how many objects they make
 abbrev room_used : List Event → ℕ
 room_used es = length (filter is_new es)
 
@@ -228,33 +245,54 @@ counted (Launch m site number args) es request h =
 counted (Retire m number) es request h = absurd h
 
 -- no event answers who has ended
+no_answer_to_an_end : (e : Event) (end : End) → IsAnswerTo e (has_ended end) → ⊥
+no_answer_to_an_end (New m obj class) end h = cc
+no_answer_to_an_end (Load m obj field value) end h = cc
+no_answer_to_an_end (Store m obj field value) end h = cc
+no_answer_to_an_end (Cas m obj field expect value done) end h = cc
+no_answer_to_an_end (Launch m site number args) end h = cc
+no_answer_to_an_end (Retire m number) end h = h
+
+-- events that follow a deed are within its means
 used :
     (es : List Event) (deed : Deed) (turn : Turn) (means : Means)
     → LeadsFrom es deed turn
     → IsWithin deed means
     → (charge_used es ≤ means.charge) × (room_used es ≤ means.room)
 used [] deed turn means h within = (omega arith, omega arith)
-used (e ∷ es) (ends end) turn means h within = absurd (none e h.0)
-  where
-    none : (f : Event) → IsAnswerTo f (has_ended end) → ⊥
-    none (New m obj class) k = cc
-    none (Load m obj field value) k = cc
-    none (Store m obj field value) k = cc
-    none (Cas m obj field expect value done) k = cc
-    none (Launch m site number args) k = cc
-    none (Retire m number) k = k
+used (e ∷ es) (ends end) turn means h within = absurd (no_answer_to_an_end e end h.0)
 used (e ∷ es) (asks request next) turn means h within =
     let rest = used es (next (reply_of e)) turn (left_after request means) h.1 (within.2 (reply_of e)) in
     let count = counted e es request h.0 in
     (omega (arith, rest.0, count.0, within.0), omega (arith, rest.1, count.1, within.1))
 
+-- what answers requests is charged as it is counted
+counted_is_charged : (es : List Event) (deed : Deed) (turn : Turn) → LeadsFrom es deed turn → charge_of_all es ≡ charge_used es
+counted_is_charged [] deed turn h = refl
+counted_is_charged (e ∷ es) (ends end) turn h = absurd (no_answer_to_an_end e end h.0)
+counted_is_charged (e ∷ es) (asks request next) turn h =
+    let rest = counted_is_charged es (next (reply_of e)) turn h.1 in
+    let count = counted e es request h.0 in
+    omega (arith, sum_by-cons charge_of e es, cost_is_charge e request h.0, rest, count.0)
+
+-- a thread's events, each launch counted twice, are no more than its charge
+pub events_are_within_charge :
+    (p : Program) (sizes : Sizes) (thread : ℕ) (es : List Event) (turn : Turn)
+    → LeadTo p sizes thread es turn
+    → length es + length (filter is_launch es) ≤ sizes.events
+unfolding LeadTo
+events_are_within_charge p sizes thread es turn h =
+    (used es (thread_deed p sizes.objects sizes.events thread) turn (record { charge = sizes.events; room = sizes.objects }) (leads_from p sizes thread [] es turn h)
+    (thread_within p sizes.objects sizes.events thread)).0
+
 -- each event is paid for before it is asked for, and each new object takes one of the region's places
 pub threads_keep_within_means : KeepWithinMeans
 unfolding LeadTo
 threads_keep_within_means = record {
+  cost = cost_is_charge;
   charge = λ p sizes thread es turn h.
-      (used es (thread_deed p sizes.objects sizes.events thread) turn (record { charge = sizes.events; room = sizes.objects }) (leads_from p sizes thread [] es turn h)
-      (thread_within p sizes.objects sizes.events thread)).0;
+      let same = counted_is_charged es (thread_deed p sizes.objects sizes.events thread) turn (leads_from p sizes thread [] es turn h) in
+      omega (arith, same, events_are_within_charge p sizes thread es turn h);
   room = λ p sizes thread es turn h.
       (used es (thread_deed p sizes.objects sizes.events thread) turn (record { charge = sizes.events; room = sizes.objects }) (leads_from p sizes thread [] es turn h)
       (thread_within p sizes.objects sizes.events thread)).1;

@@ -51,7 +51,7 @@ request_stays shape a b (launch site args) g h = (h.0, by (slice_get shape.check
         (and_both (have_kinds b kinds args.words) zeros (kinds_stay shape a b kinds args.words g inner.0) inner.1)
 
 -- a typed deed stays so
-deed_stays : (shape : ShapeLists) (a b : Heap) (deed : Deed) → GoesOn shape a b → IsTyped shape deed a → IsTyped shape deed b
+pub deed_stays : (shape : ShapeLists) (a b : Heap) (deed : Deed) → GoesOn shape a b → IsTyped shape deed a → IsTyped shape deed b
 deed_stays shape a b (ends end) g h = tt
 deed_stays shape a b (asks request rest) g h =
     (request_stays shape a b request g h.0, λ later g' reply fits. h.1 later (goes_on_further shape a b later g g') reply fits)

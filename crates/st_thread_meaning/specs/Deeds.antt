@@ -3,7 +3,7 @@ use Rattle.std.specs.Prelude.{ℕ, ◌-◌, nat_lt, true, false}
 use Rattle.st_events.specs.declared.events.Args.{Args}
 use Rattle.st_events.specs.declared.verdicts.End.{End}
 use Rattle.st_events.specs.declared.verdicts.End.TheVariants.{EventsSpent}
-use Rattle.st_thread_meaning.specs.declared.limits.TheConstants.{EVENT_COST, LAUNCH_COST}
+use Rattle.st_events.specs.declared.limits.TheConstants.{EVENT_COST, LAUNCH_COST}
 
 -- What a thread asks of the heap: a new object of a class; the word of a cell, which is an object and a field; to store a word in a cell;
 -- to put the second word in the place of the first in a cell, where the first stands there; to launch the check of a site.
@@ -29,7 +29,7 @@ pub record Means : Type 0 where
 abbrev pub paying : ℕ → Means → (Means → Deed) → Deed
 paying cost means rest = elim (nat_lt means.charge cost) [ true ↦ ends EventsSpent | false ↦ rest (record means { charge = means.charge - cost }) ]
 
--- what the event of a request costs
+-- what the event that answers a request costs: as the journal charges it
 abbrev pub cost_of : Request → ℕ
 cost_of (make class) = EVENT_COST
 cost_of (load obj field) = EVENT_COST

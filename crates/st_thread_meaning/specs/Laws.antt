@@ -4,14 +4,14 @@ use Rattle.st_events.specs.declared.events.Event.{Event}
 use Rattle.st_events.specs.declared.limits.Sizes.{Sizes}
 use Rattle.st_events.specs.declared.verdicts.End.{End}
 use Rattle.st_events.specs.declared.verdicts.Verdict.{Verdict}
-use Rattle.st_events.specs.History.{heap_after, own_events, is_launch, is_new, objects_of}
+use Rattle.st_events.specs.History.{heap_after, own_events, charge_of, charge_of_all, is_new, objects_of}
 use Rattle.st_events.specs.Judge.{IsJudge}
 use Rattle.st_events.specs.Legal.{IsLegal}
 use Rattle.st_events.specs.Shape.{ShapeLists, IsWithinLimits}
 use Rattle.st_resolved.specs.Terms.{Term, a_while, Block, Program}
-use Rattle.st_thread_meaning.specs.Deeds.{Deed, Means}
+use Rattle.st_thread_meaning.specs.Deeds.{Request, Deed, Means, cost_of}
 use Rattle.st_thread_meaning.specs.Statements.{term_deed, one_turn, command_deed, block_deed}
-use Rattle.st_thread_meaning.specs.Threads.{Turn, call_within, next_request, reply_of, IsAnswerTo, LeadTo, Follows}
+use Rattle.st_thread_meaning.specs.Threads.{Turn, asks_for, call_within, next_request, reply_of, IsAnswerTo, LeadTo, Follows}
 use Rattle.st_resolved.specs.WellFormed.{IsWellFormed}
 use Rattle.st_thread_meaning.specs.Right.{IsRightVerdict, IsPlain}
 use Rattle.st_thread_meaning.specs.Typed.{IsRightTurn}
@@ -59,12 +59,14 @@ pub record HaveOneEnd : Type 0 where
       → LeadTo p sizes thread (es ++ e ∷ fs) turn
       → ⊥
 
--- a thread makes no more objects than its region has, and its events, each launch counted twice, are no more than its charge
+-- an event takes of the charge what the request that it answers costs; a thread's events take no more than its charge in all, and it makes
+-- no more objects than its region has
 pub record KeepWithinMeans : Type 0 where
+  pub cost : (e : Event) (request : Request) → IsAnswerTo e (asks_for request) → charge_of e ≡ cost_of request
   pub charge :
       (p : Program) (sizes : Sizes) (thread : ℕ) (es : List Event) (turn : Turn)
       → LeadTo p sizes thread es turn
-      → length es + length (filter is_launch es) ≤ sizes.events
+      → charge_of_all es ≤ sizes.events
   pub room :
       (p : Program) (sizes : Sizes) (thread : ℕ) (es : List Event) (turn : Turn)
       → LeadTo p sizes thread es turn

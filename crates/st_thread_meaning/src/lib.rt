@@ -6,4 +6,4 @@ mod laws;
 mod limits;
 
 pub use laws::laws_of_threads;
-pub use limits::{CALL_COST, EVENT_COST, LAUNCH_COST, MOST_OPEN_CALLS, TURN_COST};
+pub use limits::{CALL_COST, MOST_OPEN_CALLS, TURN_COST};
