@@ -1,49 +1,11 @@
--- Limits and numbers by their values, and the words of one small plan. Code and definitions take the same constants:
--- without these lines a changed number would change both, and no proof would tell.
-use Rattle.std.proofs.Common.{◌≡◌, ℕ, refl}
-use Rattle.st_layout.specs.declared.limits.TheConstants.{MOST_MUTATORS, MOST_LANES, MOST_OBJECTS, MOST_COPIES, MOST_ROWS, MOST_FIELDS}
+-- The words of a small plan, how many the largest has, and the halves of a word. Code and definitions take the same places of the parts:
+-- without these lines a changed one would change both, and no proof would tell.
+use Rattle.std.proofs.Common.{◌≡◌, refl}
 use Rattle.st_layout.specs.declared.plans.Plan.{Plan}
-use Rattle.st_layout.specs.declared.words.TheConstants.{FIXED_CELLS, CELL_WORDS, COPY_WORDS, ROW_WORDS, MOST_WORDS}
 use Rattle.st_layout.specs.Layout.{words_of, word_of}
+use Rattle.st_layout.specs.Packed.{packed, high_half, low_half}
 use Rattle.st_layout.specs.Names.{ClosingWord, ClockWord, EpochWord, AvailableWord, FlagWord, LaneWord, ClassWord, HeaderWord}
 use Rattle.st_layout.specs.Names.{ForwardWord, FieldWord, CopyWord, FreeWord, RowWord}
-
--- ---- limits
-
-most_mutators : MOST_MUTATORS ≡ 8
-most_mutators = refl
-
-most_lanes : MOST_LANES ≡ 8
-most_lanes = refl
-
-most_objects : MOST_OBJECTS ≡ 16384
-most_objects = refl
-
-most_copies : MOST_COPIES ≡ 1048576
-most_copies = refl
-
-most_rows : MOST_ROWS ≡ 4194304
-most_rows = refl
-
-most_fields : MOST_FIELDS ≡ 12
-most_fields = refl
-
--- ---- sizes of the parts
-
-fixed_cells : FIXED_CELLS ≡ 2
-fixed_cells = refl
-
-cell_words : CELL_WORDS ≡ 24
-cell_words = refl
-
-copy_words : COPY_WORDS ≡ 13
-copy_words = refl
-
-row_words : ROW_WORDS ≡ 3
-row_words = refl
-
-most_words : MOST_WORDS ≡ 30408773
-most_words = refl
 
 -- ---- the words of a small plan
 
@@ -67,3 +29,17 @@ rest : (word_of small_plan (CopyWord 0 0) ≡ 249) × (word_of small_plan (FreeW
     × (word_of small_plan (RowWord 1 0) ≡ 291) × (words_of small_plan ≡ 321)
 unfolding word_of words_of
 rest = (refl, refl, refl, refl)
+
+-- ---- the largest plan
+
+abbrev largest_plan : Plan
+largest_plan = record { mutators = 8; lanes = 8; objects = 16384; copies = 1048576; rows = 4194304 }
+
+largest : words_of largest_plan ≡ 30408773
+unfolding words_of
+largest = refl
+
+-- ---- two halves in one word
+
+halves : (packed 7 4294967295 ≡ 34359738367) × (high_half 34359738367 ≡ 7) × (low_half 34359738367 ≡ 4294967295)
+halves = (refl, refl, refl)

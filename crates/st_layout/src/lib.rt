@@ -7,8 +7,6 @@ mod limits;
 mod object_words;
 mod packing;
 mod plans;
-#[cfg(test)]
-mod tests;
 mod words;
 
 pub use limits::{MOST_COPIES, MOST_FIELDS, MOST_LANES, MOST_MUTATORS, MOST_OBJECTS, MOST_ROWS};

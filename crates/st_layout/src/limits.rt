@@ -12,3 +12,13 @@ pub const MOST_COPIES: u32 = 1_048_576;
 pub const MOST_ROWS: u32 = 4_194_304;
 /// The most fields of a class, and the most shared variables.
 pub const MOST_FIELDS: u8 = 12;
+
+// Code and definitions take the same six numbers: a changed one is refused here.
+const _: () = prove!(
+    MOST_MUTATORS == 8
+        && MOST_LANES == 8
+        && MOST_OBJECTS == 16_384
+        && MOST_COPIES == 1_048_576
+        && MOST_ROWS == 4_194_304
+        && MOST_FIELDS == 12
+);

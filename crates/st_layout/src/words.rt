@@ -42,3 +42,12 @@ pub const MOST_WORDS: u32 = FIRST_FLAG
     + MOST_COPIES * COPY_WORDS
     + MOST_COPIES
     + MOST_ROWS * ROW_WORDS;
+
+// Code and definitions take the same sizes of the parts: a changed one is refused here.
+const _: () = prove!(
+    FIXED_CELLS == 2
+        && CELL_WORDS == 24
+        && COPY_WORDS == 13
+        && ROW_WORDS == 3
+        && MOST_WORDS == 30_408_773
+);

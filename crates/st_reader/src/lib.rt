@@ -5,4 +5,4 @@ mod counting;
 mod reading;
 
 pub use counting::Steps;
-pub use reading::{Lost, read};
+pub use reading::read;

@@ -9,16 +9,10 @@ ghost use Rattle.st_rule.specs.Reading.{past_of};
 ghost use Rattle.st_reader.specs.Reads.{IsLostTo, LeavesLane, CountsSteps, HasLive, LoadsLive, LoadsForward, LoadsBoth};
 
 use crate::counting::Steps;
-use st_events::Judge;
+use st_events::{Judge, Lost};
 use st_layout::{hi, lo};
 use st_rule::{LOST, LaneSeat, Shared};
 use std::sync::ledger::Ledger;
-
-/// The object's version at the check's launch is lost.
-#[derive(Clone, Copy, Debug, PartialEq, Eq)]
-pub struct Lost {
-    pub obj: u32,
-}
 
 /// The word of a cell in the heap of the check's launch. `Lost` comes only where the version is lost in the journal that the seat has then seen.
 pub fn read<J: Judge, L: Ledger>(

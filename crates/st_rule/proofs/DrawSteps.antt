@@ -33,10 +33,8 @@ use Rattle.st_rule.specs.Board.{stays_loaded}
 use Rattle.st_rule.specs.Parts.{Sits, JournalPart, GatePart, BoardPart, LoadedPart, HasLoaded, ObjectPart, HandPart, IsJoined, Seating}
 use Rattle.st_rule.specs.Plays.{Seated, Draws}
 use Rattle.st_rule.specs.Rule.{Told, Moment, HoldsAt, IsSoundTable, world_of, flights_of, LanesAt, CopiesAt, KeptAt, ReadsAt}
-use Rattle.st_rule.specs.Needs.{needing_lanes, copies_of, takes_copy, is_change, is_any}
-use Rattle.st_rule.proofs.NeedLemmas.{some_of, needs}
+use Rattle.st_rule.specs.Needs.{needing_lanes, copies_of}
 use Rattle.st_rule.proofs.DrawVersions.{VersionsAfter, after_event, versions_drawn, copies_after}
-use Rattle.st_rule.proofs.ReachLemmas.{sound}
 use Rattle.st_rule.specs.Views.{seen_by, is_closer}
 use Rattle.st_rule.proofs.DrawEvents.{suits_own, suits_other}
 use Rattle.st_rule.proofs.DrawLegal.{legal_next, objects_next, epoch_same, active_same, launched_same, mutator}
@@ -55,18 +53,14 @@ use Rattle.st_rule.proofs.ViewLemmas.{set_there, sits_once, mut_is, gone_is_no_m
 one_longer : {A : Type 0} (xs : List A) (x : A) → length (xs ++ x ∷ []) ≡ length xs + 1
 one_longer xs x = length-append xs (x ∷ [])
 
--- each event costs something
-charge_is : (e : Event) → 1 ≤ charge_of e
-charge_is (New m obj class) = omega arith
-charge_is (Load m obj field value) = omega arith
-charge_is (Store m obj field value) = omega arith
-charge_is (Cas m obj field expect value done) = omega arith
-charge_is (Launch m number site args) = omega arith
-charge_is (Retire m number) = omega arith
-
-some_copy : (copy : Bool) (epoch : ℕ) → (copy ≡ true → 0 < epoch) → epoch ≡ 0 → copies_of copy ≡ 0
-some_copy true epoch launched none = absurd (let l : 0 < epoch = launched refl in omega (arith, l, none))
-some_copy false epoch launched none = refl
+-- each own event of a number costs something
+charge_is : (n : ℕ) (e : Event) → is_own n e ≡ true → 1 ≤ charge_of e
+charge_is n (New m obj class) own = omega arith
+charge_is n (Load m obj field value) own = omega arith
+charge_is n (Store m obj field value) own = omega arith
+charge_is n (Cas m obj field expect value done) own = omega arith
+charge_is n (Launch m number site args) own = omega arith
+charge_is n (Retire m number) own = absurd (let f : false ≡ true = own in cc)
 
 few_copies : (copy : Bool) → copies_of copy ≤ 1
 few_copies true = omega arith
@@ -173,7 +167,7 @@ module _ (told : Told) (id : ℕ) (v : MutView) (m : Moment) (words : List ℕ) 
   paid_after =
       let more = below_more told.terms.sizes.mutators n m.journal event other own is_mutator in
       let active = ap (λ (x : World). length x.active) world_is ∙ ap length (active_same v may.hand told.terms.shape told.terms.sizes before event may.suits) in
-      omega (arith, more, active, one_longer m.journal event, h.journal_part.paid, charge_is event)
+      omega (arith, more, active, one_longer m.journal event, h.journal_part.paid, charge_is n event own)
 
   journal_after : JournalPart told.terms journal' (board' ClockWord) m.split views'
   journal_after = record {
@@ -211,24 +205,6 @@ module _ (told : Told) (id : ℕ) (v : MutView) (m : Moment) (words : List ℕ) 
         (h.gate_part.split_off id v sits) (λ j u differs there. h.gate_part.split_off j u there);
   }
 
-  -- where a copy is drawn some check was launched
-  needs_launch : copy ≡ true → 0 < before.epoch
-  needs_launch drawn =
-      let any = if_takes event (needing_lanes v may.hand) (sym may.copied ∙ drawn) in
-      let l = some_of (needing_lanes v may.hand) any in
-      let r = needs told id v m words views h sits may.hand may.held may.quiet may.inside l.0 l.1 in
-      let most = (sound told id v m words views h sits).active.launched (m.board (LaneWord l.0)) r.1 in
-      let low = most.0 in
-      let high = most.1 in
-      omega (arith, low, high)
-    where
-      if_takes : (e : Event) (lanes : List ℕ) → takes_copy e lanes ≡ true → is_any lanes ≡ true
-      if_takes e lanes takes = cases (is_change e) takes
-        where
-          cases : (b : Bool) → (if b then is_any lanes else false) ≡ true → is_any lanes ≡ true
-          cases true t = t
-          cases false t = absurd cc
-
   -- the parts on old versions
   versions : VersionsAfter told m (after_event told m event) (flights_of (at n (Some (record may.hand { flight = left_in_flight before.heap (needing_lanes v may.hand) (low_half word) event })) m.grip)
       (at may.hand.object (suc n) m.holder)) (copies_after told m may.hand.object)
@@ -237,7 +213,7 @@ module _ (told : Told) (id : ℕ) (v : MutView) (m : Moment) (words : List ℕ) 
       (packed (high_half (m.board ClockWord) + 1) (low_half (m.board ClockWord) + copies_of copy))
       (low_packed (high_half (m.board ClockWord) + 1) (low_half (m.board ClockWord) + copies_of copy) low_fits)
 
-  board_next : BoardPart told.terms.sizes after (board' EpochWord) (board' AvailableWord) (board' ClockWord) (λ l. board' (LaneWord l))
+  board_next : BoardPart told.terms.sizes after (board' EpochWord) (λ l. board' (LaneWord l))
   board_next =
       let epoch = epoch_same v may.hand told.terms.shape told.terms.sizes before event may.suits in
       let active = active_same v may.hand told.terms.shape told.terms.sizes before event may.suits in
@@ -245,11 +221,6 @@ module _ (told : Told) (id : ℕ) (v : MutView) (m : Moment) (words : List ℕ) 
         epoch_is = h.board_part.epoch_is ∙ sym epoch;
         lanes = λ k is_active. h.board_part.lanes k (ap (λ ns. is_among ns k) (sym active) ∙ is_active);
         idle = λ l within. ⊎_elim (λ none. inl none) (λ one. inr (ap (λ ns. is_among ns (m.board (LaneWord l))) active ∙ one)) (h.board_part.idle l within);
-        unlaunched = λ none.
-            let u = h.board_part.unlaunched (sym epoch ∙ none) in
-            let no_copy = some_copy copy before.epoch needs_launch (sym epoch ∙ none) in
-            let low = low_packed (high_half (m.board ClockWord) + 1) (low_half (m.board ClockWord) + copies_of copy) low_fits in
-            (u.0, low ∙ omega (arith, u.1, no_copy));
       }
 
   loaded_after : LoadedPart (plan_of told.terms.sizes) board' views'
@@ -326,7 +297,7 @@ module _ (told : Told) (id : ℕ) (v : MutView) (m : Moment) (words : List ℕ) 
     displayed = displays;
     journal_part = journal_after;
     gate_part = gate_after;
-    board_part = subst (λ x. BoardPart told.terms.sizes x (board' EpochWord) (board' AvailableWord) (board' ClockWord) (λ l. board' (LaneWord l))) (sym world_is) board_next;
+    board_part = subst (λ x. BoardPart told.terms.sizes x (board' EpochWord) (λ l. board' (LaneWord l))) (sym world_is) board_next;
     loaded_part = loaded_after;
     object_part = subst (λ x. ObjectPart told.terms.sizes x m.phase (at n (Some (record may.hand { flight = left_in_flight before.heap (needing_lanes v may.hand) (low_half word) event })) m.grip)
         (at may.hand.object (suc n) m.holder) (λ o. m.board (HeaderWord o)) (λ o. m.board (ClassWord o)) (λ o f. m.board (FieldWord o f)) (λ o l. m.board (ForwardWord o l)))

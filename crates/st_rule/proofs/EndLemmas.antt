@@ -1,5 +1,5 @@
 -- At the close the main thread's seat has seen the whole journal.
-use Rattle.std.proofs.Common.{◌≡◌, ℕ, zero, suc, ◌<◌, ◌==◌, ◌||◌, Bool, true, false, List, [], ◌∷◌, length, map}
+use Rattle.std.proofs.Common.{◌≡◌, ℕ, zero, suc, ◌+◌, ◌-◌, ◌^◌, ◌<◌, ◌≤◌, ◌==◌, ◌||◌, Bool, true, false, List, [], ◌∷◌, length, map}
 use Rattle.std.proofs.Common.{get_or, sym, refl, ap, subst, ◌∙◌, arith, ⊎_elim, inl, inr}
 use Rattle.std.specs.Prelude.{◌⊎◌}
 use Rattle.std.proofs.lemmas.Bool.Decides.{nat_tests}
@@ -11,7 +11,7 @@ use Rattle.atomic_table.specs.Table.{State, Final, Seen}
 use Rattle.st_layout.specs.Layout.{word_of}
 use Rattle.st_layout.specs.Names.{ClockWord, AvailableWord, RowWord, HasWord}
 use Rattle.st_layout.specs.Packed.{high_half, low_half}
-use Rattle.st_events.specs.History.{epoch_of}
+use Rattle.st_events.specs.History.{epoch_of, active_checks, kept_rows}
 use Rattle.st_events.specs.Legal.{IsLegal}
 use Rattle.st_events.specs.World.{is_among}
 use Rattle.st_rule.specs.declared.views.JoinedView.{JoinedView}
@@ -22,11 +22,12 @@ use Rattle.st_rule.specs.Board.{plan_of}
 use Rattle.st_rule.specs.Ends.{IsHistoryOf, HasLogs}
 use Rattle.st_rule.specs.Entries.{own_entries}
 use Rattle.st_rule.specs.Parts.{Sits}
-use Rattle.st_rule.specs.Rule.{Told, Moment, HoldsAt, IsSoundTable}
+use Rattle.st_rule.specs.Rule.{Told, Moment, HoldsAt, IsSoundTable, world_of}
 use Rattle.st_rule.specs.Rows.{IsUnretired, rows_told, row_word}
 use Rattle.st_rule.specs.Seats.{HasJoinedAll, HasSeenAll}
 use Rattle.st_rule.specs.SeatValue.{SeatValue}
 use Rattle.st_rule.proofs.PrefixLemmas.{prefix_whole}
+use Rattle.st_rule.proofs.ReachLemmas.{sound}
 use Rattle.st_rule.proofs.RowLemmas.{row_is, none_retired}
 use Rattle.st_rule.proofs.ViewLemmas.{sits_once, mut_is, gone_is_no_mutator}
 
@@ -35,6 +36,18 @@ pub sees_all : (told : Told) (seat : SeatValue) (clock : ℕ) → high_half cloc
 sees_all told seat clock counts m words views h sits is_clock =
     let same : length m.journal ≡ length seat.view.journal.seen = sym h.journal_part.tickets ∙ ap high_half is_clock ∙ counts in
     sym (prefix_whole seat.view.journal.seen m.journal (h.journal_part.prefixes seat.id (Mut seat.view) sits) (omega (arith, same)))
+
+-- how many copies are left and how many rows are kept, where so many were listed and so many drawn
+left_and_kept :
+    (available drawn kept copies : ℕ) → (drawn ≤ available → kept + available ≡ copies + drawn) → (available ≤ drawn → kept ≡ copies)
+    → (available - drawn) + kept ≡ copies
+left_and_kept available drawn kept copies some_left none_left = ⊎_elim
+    (λ below. omega (arith, below, some_left below))
+    (λ beyond. omega (arith, beyond, none_left beyond))
+    (le_or_ge drawn available)
+  where
+    le_or_ge : (a b : ℕ) → (a ≤ b) ⊎ (b ≤ a)
+    le_or_ge a b = grind arith
 
 first_or_rest : (a b : Bool) → (a || b) ≡ true → (a ≡ true) ⊎ (b ≡ true)
 first_or_rest true b e = inl refl
@@ -84,14 +97,26 @@ module _ (told : Told) (id : ℕ) (v : MutView) (m : Moment) (words : List ℕ) 
   pub clock_counts : high_half (get_or words (word_of (plan_of told.terms.sizes) ClockWord) 0) ≡ length v.journal.seen
   clock_counts = ap high_half (h.displayed.says ClockWord tt) ∙ h.journal_part.tickets ∙ ap length saw_all
 
-  -- before the first launch all copies are free
-  pub all_free :
-      epoch_of told.terms.shape told.terms.sizes v.journal.seen ≡ 0
-      → (get_or words (word_of (plan_of told.terms.sizes) AvailableWord) 0 ≡ told.terms.sizes.copies)
-      × (low_half (get_or words (word_of (plan_of told.terms.sizes) ClockWord) 0) ≡ 0)
-  all_free none =
-      let u = h.board_part.unlaunched (ap (epoch_of told.terms.shape told.terms.sizes) saw_all ∙ none) in
-      (h.displayed.says AvailableWord tt ∙ u.0, ap low_half (h.displayed.says ClockWord tt) ∙ u.1)
+  -- the free copies and the rows kept number all copies
+  pub copies_counted :
+      (get_or words (word_of (plan_of told.terms.sizes) AvailableWord) 0 - low_half (get_or words (word_of (plan_of told.terms.sizes) ClockWord) 0))
+      + length (kept_rows told.terms.shape told.terms.sizes v.journal.seen) ≡ told.terms.sizes.copies
+  copies_counted =
+      let available = h.displayed.says AvailableWord tt in
+      let clock = h.displayed.says ClockWord tt in
+      let journal = sym saw_all in
+      (λ i. (available i - low_half (clock i)) + length (kept_rows told.terms.shape told.terms.sizes (journal i)))
+      ∙ left_and_kept (m.board AvailableWord) (low_half (m.board ClockWord)) (length (world_of told.terms m).kept) told.terms.sizes.copies
+      h.copy_part.some_left h.copy_part.none_left
+
+  -- the free list is short
+  pub few_listed : get_or words (word_of (plan_of told.terms.sizes) AvailableWord) 0 < 2 ^ 32
+  few_listed = omega (arith, h.displayed.says AvailableWord tt, h.copy_part.listed, h.limits.copies)
+
+  -- where no check is active no row is kept
+  pub none_kept : active_checks told.terms.shape told.terms.sizes v.journal.seen ≡ [] → kept_rows told.terms.shape told.terms.sizes v.journal.seen ≡ []
+  none_kept = subst (λ es. active_checks told.terms.shape told.terms.sizes es ≡ [] → kept_rows told.terms.shape told.terms.sizes es ≡ []) saw_all
+      (sound told id v m words views h sits).rows.none_idle
 
   -- the row of a check that was not retired is all 0
   pub rows_unwritten :
@@ -131,16 +156,23 @@ module _ (told : Told) (id : ℕ) (v : MutView) (is_main : v.gate.number ≡ tol
   final_clock place word is_place found =
       ap high_half (sym (word_is place word found) ∙ ap (λ i. get_or s.words i 0) is_place) ∙ clock_counts told id v m s.words s.views h final.1.1 is_main all_joined
 
-  pub final_free :
+  pub final_copies :
       (place word clock_place clock : ℕ) → place ≡ word_of (plan_of told.terms.sizes) AvailableWord → get_elem? words place ≡ some word
       → clock_place ≡ word_of (plan_of told.terms.sizes) ClockWord → get_elem? words clock_place ≡ some clock
-      → epoch_of told.terms.shape told.terms.sizes v.journal.seen ≡ 0
-      → (word ≡ told.terms.sizes.copies) × (low_half clock ≡ 0)
-  final_free place word clock_place clock is_place found is_clock_place found_clock none =
-      let free = all_free told id v m s.words s.views h final.1.1 is_main all_joined none in (
-        sym (word_is place word found) ∙ ap (λ i. get_or s.words i 0) is_place ∙ free.0,
-        ap low_half (sym (word_is clock_place clock found_clock) ∙ ap (λ i. get_or s.words i 0) is_clock_place) ∙ free.1,
-      )
+      → (word - low_half clock) + length (kept_rows told.terms.shape told.terms.sizes v.journal.seen) ≡ told.terms.sizes.copies
+  final_copies place word clock_place clock is_place found is_clock_place found_clock =
+      let available = sym (word_is place word found) ∙ ap (λ i. get_or s.words i 0) is_place in
+      let drawn = ap low_half (sym (word_is clock_place clock found_clock) ∙ ap (λ i. get_or s.words i 0) is_clock_place) in
+      (λ i. (available i - drawn i) + length (kept_rows told.terms.shape told.terms.sizes v.journal.seen))
+      ∙ copies_counted told id v m s.words s.views h final.1.1 is_main all_joined
+
+  pub final_few : (place word : ℕ) → place ≡ word_of (plan_of told.terms.sizes) AvailableWord → get_elem? words place ≡ some word → word < 2 ^ 32
+  final_few place word is_place found =
+      subst (λ k. k < 2 ^ 32) (sym (sym (word_is place word found) ∙ ap (λ i. get_or s.words i 0) is_place))
+      (few_listed told id v m s.words s.views h final.1.1 is_main all_joined)
+
+  pub final_idle : active_checks told.terms.shape told.terms.sizes v.journal.seen ≡ [] → kept_rows told.terms.shape told.terms.sizes v.journal.seen ≡ []
+  final_idle = none_kept told id v m s.words s.views h final.1.1 is_main all_joined
 
   pub final_rows :
       (check k : ℕ) → HasWord (plan_of told.terms.sizes) (RowWord check k) → IsUnretired v.journal.seen check

@@ -127,7 +127,6 @@ module _ (told : Told) (fits : AreWithinLimits told.terms.sizes) (shape_fits : I
         epoch_is = refl;
         lanes = λ n active. absurd cc;
         idle = λ l within. inl refl;
-        unlaunched = λ none. (refl, omega arith);
       };
       loaded_part = record { loaded = only_mut (λ id u. HasLoaded (plan_of told.terms.sizes) m.board u) v (nothing_loaded (plan_of told.terms.sizes) m.board v refl) };
       object_part = start_objects told.terms.shape told.terms.sizes;

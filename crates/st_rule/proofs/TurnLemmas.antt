@@ -238,14 +238,13 @@ module _ (told : Told) (m : Moment) (words : List ℕ) (views : List View) (h : 
         paid = h.journal_part.paid;
       }
 
-      board_after : BoardPart told.terms.sizes (world_of told.terms m) (board' EpochWord) (board' AvailableWord) (board' ClockWord) (λ l. board' (LaneWord l))
+      board_after : BoardPart told.terms.sizes (world_of told.terms m) (board' EpochWord) (λ l. board' (LaneWord l))
       board_after =
           let lane_is : (l : ℕ) → board' (LaneWord l) ≡ m.board (LaneWord l) = λ l. quiet.board (LaneWord l) refl in
           record {
             epoch_is = quiet.board EpochWord refl ∙ h.board_part.epoch_is;
             lanes = λ n active. let l = h.board_part.lanes n active in (l.0, l.1, lane_is l.0 ∙ l.2, λ k within same. l.3 k within (sym (lane_is k) ∙ same));
             idle = λ l within. ⊎_elim (λ none. inl (lane_is l ∙ none)) (λ one. inr (ap (is_among (world_of told.terms m).active) (lane_is l) ∙ one)) (h.board_part.idle l within);
-            unlaunched = λ none. let u = h.board_part.unlaunched none in (quiet.board AvailableWord refl ∙ u.0, ap low_half same_clock ∙ u.1);
           }
 
       loaded_after : LoadedPart (plan_of told.terms.sizes) board' views'

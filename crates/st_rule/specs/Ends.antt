@@ -1,8 +1,8 @@
 -- What is left of a table at its close.
-use Rattle.std.specs.Prelude.{◌≡◌, ℕ, List, All}
+use Rattle.std.specs.Prelude.{◌≡◌, ℕ, ◌+◌, List, [], length, All}
 use Rattle.st_layout.specs.Names.{RowWord, HasWord}
 use Rattle.st_events.specs.declared.events.Event.{Event}
-use Rattle.st_events.specs.History.{epoch_of}
+use Rattle.st_events.specs.History.{epoch_of, active_checks, kept_rows}
 use Rattle.st_rule.specs.declared.views.JoinedView.{JoinedView}
 use Rattle.st_rule.specs.declared.views.Terms.{Terms}
 use Rattle.st_rule.specs.declared.views.View.{View}
@@ -29,9 +29,13 @@ pub record IsHistoryOf (told : Told) (history : List Event) : Type 0 where
 abbrev pub HasLogs : List Event → List JoinedView → Type 0
 HasLogs history joined = All (λ j. own_entries j.number 0 history ≡ j.entries) joined
 
--- where no check was launched every copy is free
+-- the free copies and the rows kept at the end number all copies
+abbrev pub HasEachCopy : Terms → ClosedValue → Type 0
+HasEachCopy terms closed = closed.free + length (kept_rows terms.shape terms.sizes closed.history) ≡ terms.sizes.copies
+
+-- where no check is active at the end every copy is free
 abbrev pub HasAllFree : Terms → ClosedValue → Type 0
-HasAllFree terms closed = epoch_of terms.shape terms.sizes closed.history ≡ 0 → closed.free ≡ terms.sizes.copies
+HasAllFree terms closed = active_checks terms.shape terms.sizes closed.history ≡ [] → closed.free ≡ terms.sizes.copies
 
 -- the row of each check without a Retire in the history is all 0
 abbrev pub HasUnwrittenRows : Terms → ClosedValue → Type 0

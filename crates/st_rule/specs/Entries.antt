@@ -2,10 +2,10 @@
 use Rattle.std.specs.Prelude.{ℕ, zero, suc, ◌+◌, ◌*◌, nat_lt, if◌then◌else◌, List, [], ◌∷◌, length, filter}
 use Rattle.std.specs.List.{sum_by}
 use Rattle.st_events.specs.declared.events.Event.{Event}
-use Rattle.st_events.specs.declared.events.Event.TheVariants.{New, Load, Store, Cas, Launch, Retire}
 use Rattle.st_events.specs.declared.heaps.TheConstants.{FIRST_OF_REGIONS}
 use Rattle.st_events.specs.declared.limits.Sizes.{Sizes}
 use Rattle.st_events.specs.History.{is_own, is_new}
+pub use Rattle.st_events.specs.History.{charge_of}
 use Rattle.st_rule.specs.declared.views.Entry.{Entry}
 use Rattle.st_rule.specs.declared.views.MutView.{MutView}
 
@@ -15,16 +15,7 @@ own_entries number ticket [] = []
 own_entries number ticket (e ∷ es) =
     if is_own number e then record { ticket = ticket; event = e } ∷ own_entries number (suc ticket) es else own_entries number (suc ticket) es
 
--- what an event takes of its mutator's charge: a launch pays for its Retire too
-abbrev pub charge_of : Event → ℕ
-charge_of (New m obj class) = 1
-charge_of (Load m obj field value) = 1
-charge_of (Store m obj field value) = 1
-charge_of (Cas m obj field expect value done) = 1
-charge_of (Launch m number site args) = 2
-charge_of (Retire m number) = 1
-
--- what entries took of the charge in all
+-- what entries took of the charge in all. A Retire takes nothing, and is nobody's own, so it is no entry: its Launch paid for it
 abbrev pub charge_of_all : List Entry → ℕ
 charge_of_all entries = sum_by (λ e. charge_of e.event) entries
 

@@ -77,15 +77,13 @@ pub record GatePart (mutators : ℕ) (flag : ℕ → ℕ) (closing : ℕ) (phase
   pub split_off : (id : ℕ) (v : MutView) → Sits views id (Mut v) → v.gate.number < mutators → v.gate.number < split
 
 -- the board part, while nobody alone has a change of the board in flight
-pub record BoardPart (sizes : Sizes) (world : World) (epoch available clock : ℕ) (lane : ℕ → ℕ) : Type 0 where
+pub record BoardPart (sizes : Sizes) (world : World) (epoch : ℕ) (lane : ℕ → ℕ) : Type 0 where
   -- the epoch word counts the launches
   pub epoch_is : epoch ≡ world.epoch
   -- each active check has one lane, whose word is its number
   pub lanes : (n : ℕ) → is_among world.active n ≡ true → (l : ℕ) × (l < sizes.lanes) × (lane l ≡ n) × ((k : ℕ) → k < sizes.lanes → lane k ≡ n → k ≡ l)
   -- the word of each other lane is 0
   pub idle : (l : ℕ) → l < sizes.lanes → (lane l ≡ 0) ⊎ (is_among world.active (lane l) ≡ true)
-  -- before the first launch no copy was drawn, and all are free
-  pub unlaunched : world.epoch ≡ 0 → (available ≡ sizes.copies) × (low_half clock ≡ 0)
 
 -- what a view has loaded of such words is what they are
 abbrev pub HasLoaded : Plan → Board → MutView → Type 0

@@ -86,8 +86,7 @@ pub record HoldsAt (told : Told) (m : Moment) (words : List ℕ) (views : List V
   pub displayed : Displays (plan_of told.terms.sizes) words m.board
   pub journal_part : JournalPart told.terms m.journal (m.board ClockWord) m.split views
   pub gate_part : GatePart told.terms.sizes.mutators (λ n. m.board (FlagWord n)) (m.board ClosingWord) m.phase m.seat m.split m.journal views
-  pub board_part :
-      BoardPart told.terms.sizes (world_of told.terms m) (m.board EpochWord) (m.board AvailableWord) (m.board ClockWord) (λ l. m.board (LaneWord l))
+  pub board_part : BoardPart told.terms.sizes (world_of told.terms m) (m.board EpochWord) (λ l. m.board (LaneWord l))
   pub loaded_part : LoadedPart (plan_of told.terms.sizes) m.board views
   pub object_part :
       ObjectPart told.terms.sizes (world_of told.terms m) m.phase m.grip m.holder (λ o. m.board (HeaderWord o)) (λ o. m.board (ClassWord o))

@@ -1,8 +1,8 @@
 //! The end of a table.
-ghost use Rattle.std.specs.Prelude.{◌≡◌, length};
+ghost use Rattle.std.specs.Prelude.{◌≡◌, ◌-◌, ◌^◌, ◌<◌, length};
 ghost use Rattle.st_rule.specs.declared.views.Phase.TheVariants.{Outside};
 ghost use Rattle.std.specs.Slots.{slots_items};
-ghost use Rattle.st_rule.specs.Ends.{IsHistoryOf, HasLogs, HasAllFree, HasUnwrittenRows, HasNoRows};
+ghost use Rattle.st_rule.specs.Ends.{IsHistoryOf, HasLogs, HasEachCopy, HasAllFree, HasUnwrittenRows, HasNoRows};
 ghost use Rattle.st_rule.specs.Rows.{rows_told};
 ghost use Rattle.st_rule.specs.Views.{mutator_of};
 ghost use Rattle.st_rule.specs.Seats.{IsSeatOf, IsMain, HasJoinedAll, terms_of, told_of};
@@ -94,6 +94,7 @@ impl<J: Judge> Shared<J> {
         ensures logs { HasLogs result.history main.view.hands.joined }
         ensures rows { HasUnwrittenRows (terms_of J.meant self) result }
         ensures unlaunched { HasNoRows (terms_of J.meant self) result }
+        ensures copies { HasEachCopy (terms_of J.meant self) result }
         ensures free { HasAllFree (terms_of J.meant self) result }
     {
         let Shared { table, plan, .. } = self;
@@ -104,19 +105,15 @@ impl<J: Judge> Shared<J> {
         let available = closed.word(plan.available_word() as usize);
         let words = Snapshot::of(&closed);
         closed.free();
-        let free = free_copies(available, lo(clock), plan.copies);
+        let free = free_copies(available, lo(clock));
         Closed::of(free, hi(clock) as u32, picture, plan, words)
     }
 }
 
-/// How many copies are free, where so many were free and so many were drawn since: at most all.
-fn free_copies(available: u64, drawn: u64, copies: u32) -> u32
-    ensures { available ≡ copies → drawn ≡ 0 → result ≡ copies }
+/// How many copies are free, where the free list had so many and so many were drawn: none where more were drawn than it had.
+fn free_copies(available: u64, drawn: u64) -> u32
+    requires { available < 2 ^ 32 }
+    ensures { result ≡ available - drawn }
 {
-    let left = available.saturating_sub(drawn);
-    if left < u64::from(copies) {
-        left as u32
-    } else {
-        copies
-    }
+    available.saturating_sub(drawn) as u32
 }
