@@ -6,6 +6,7 @@ pub mod CommandLemmas
 pub mod CountLemmas
 pub mod EachLemmas
 pub mod EarlierLemmas
+mod Examples
 pub mod ForgetLemmas
 pub mod FormedLemmas
 pub mod GrowthLemmas

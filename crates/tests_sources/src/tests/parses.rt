@@ -241,6 +241,15 @@ fn limits_on_tokens_come_before_the_grammar(rt: HostRuntime) -> Result<(), Fail>
         answer(alloc, b"{{{{{{{{{{{{{{{{{"),
         Some(Err(ParseError::TooDeep { at }))
     );
+    // A brace that closes none counts for nothing.
+    let behind = Site {
+        line: 1,
+        column: 18,
+    };
+    assert_eq!(rt;
+        answer(alloc, b"}{{{{{{{{{{{{{{{{{"),
+        Some(Err(ParseError::TooDeep { at: behind }))
+    );
     let mut text = Vec::new(alloc);
     for _ in 0..129 {
         text.push(b'(')?;

@@ -148,7 +148,9 @@ fn a_field_is_one_of_the_class_of_its_object(rt: HostRuntime) -> Result<(), Fail
 
 #[test]
 fn a_call_names_what_may_be_called_in_its_place(rt: HostRuntime) -> Result<(), Fail> {
-    let rows: [Row<'_>; 8] = [
+    let rows: [Row<'_>; 9] = [
+        // In a predicate.
+        (b"pred q(): bool = p(); proc p() { }", 18, NOT_PURE),
         // In a check.
         (b"thread t { check p(); }", 18, UNKNOWN),
         (b"proc p() { } thread t { check p(); }", 31, NOT_PURE),
@@ -187,7 +189,7 @@ fn arguments_fit_the_parameters(rt: HostRuntime) -> Result<(), Fail> {
         ),
         // Their count is told before their kinds.
         (
-            b"pred p(a: int): bool = true; pred q(): bool = p(1, true);",
+            b"pred p(a: int): bool = true; pred q(): bool = p(true, 1);",
             47,
             WRONG_COUNT,
         ),
@@ -201,7 +203,11 @@ fn arguments_fit_the_parameters(rt: HostRuntime) -> Result<(), Fail> {
             108,
             B_FOR_A,
         ),
-        (b"proc p(a: int) { } thread t { p(); }", 31, WRONG_COUNT),
+        (
+            b"proc p(a: int) { } thread t { p(true, 1); }",
+            31,
+            WRONG_COUNT,
+        ),
         (
             b"proc p(a: int) { } thread t { p(null); }",
             33,
@@ -367,7 +373,12 @@ fn a_value_has_the_declared_kind(rt: HostRuntime) -> Result<(), Fail> {
 
 #[test]
 fn cas_takes_values_of_its_place_and_is_a_bool(rt: HostRuntime) -> Result<(), Fail> {
-    let rows: [Row<'_>; 4] = [
+    let rows: [Row<'_>; 5] = [
+        (
+            b"shared { f: bool; } thread t { var d: bool = cas(shared.f, 0, true); }",
+            60,
+            INT_FOR_BOOL,
+        ),
         (
             b"shared { k: int; } thread t { var d: bool = cas(shared.k, true, 1); }",
             59,
@@ -395,7 +406,7 @@ fn cas_takes_values_of_its_place_and_is_a_bool(rt: HostRuntime) -> Result<(), Fa
 
 #[test]
 fn the_first_fault_in_source_order_is_told(rt: HostRuntime) -> Result<(), Fail> {
-    let rows: [Row<'_>; 4] = [
+    let rows: [Row<'_>; 9] = [
         // The head of a predicate, and not its calls before it.
         (
             b"pred q(): bool = p(null) && p(null); pred p(a: B): bool = true;",
@@ -408,12 +419,21 @@ fn the_first_fault_in_source_order_is_told(rt: HostRuntime) -> Result<(), Fail> 
             52,
             UNKNOWN,
         ),
+        // The arguments before the name of what is called.
+        (b"pred q(): bool = p(x);", 20, UNKNOWN),
         // The left operand before the sum.
         (
             b"thread t { var x: int = y + true; x = false; }",
             25,
             UNKNOWN,
         ),
+        // Both operands before what the sum asks; of two wrong kinds the left one.
+        (b"thread t { var x: int = true + y; }", 32, UNKNOWN),
+        (b"thread t { var x: int = true + null; }", 25, BOOL_FOR_INT),
+        // The name of a field before its type.
+        (b"class A { v: int; v: B; }", 19, TWICE),
+        // A class before the shared variables.
+        (b"class A { v: C; } shared { x: B; }", 14, UNKNOWN),
         // The target before the value.
         (b"thread t { x = true + 1; }", 12, UNKNOWN),
     ];

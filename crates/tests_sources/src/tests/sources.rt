@@ -35,9 +35,10 @@ fn blanks(alloc: Global, bytes: usize) -> Result<Vec<u8>, AllocError> {
 
 #[test]
 fn what_keeps_the_rules_is_accepted(rt: HostRuntime) -> Result<(), Fail> {
-    let rows: [&[u8]; 9] = [
+    let rows: [&[u8]; 10] = [
         b"",
         b"thread t { check null == null; }",
+        b"shared { f: bool; } thread t { var d: bool = cas(shared.f, false, true); }",
         b"class A { } pred p(a: A): bool = a == null && null != a;",
         b"class A { } pred p(a: A): A = true ? a : null;",
         b"class A { } pred p(a: A): A = true ? null : a;",
