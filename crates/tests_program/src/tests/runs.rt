@@ -1,6 +1,6 @@
 //! What runs write, and their statuses.
 
-use super::calling::{call, lends};
+use super::calling::{Lent, call, lends};
 use super::texts::{
     BUMP, BUMP_REPORT, DOWN, DOWN_REPORT, FAULTS, FAULTS_REPORT, LIST, LIST_REPORT, LIST_SPENT,
     LOST, LOST_KEPT, LOST_REPORT, NO_CHECKS, THREE, TWO, TWO_JOURNAL, TWO_JSON, TWO_REPORT,
@@ -110,5 +110,23 @@ fn the_journal_of_a_run_replays_to_its_heap(rt: HostRuntime) -> Result<(), Fail>
         Some(ran) => assert_eq!(rt; shared_word_after(rt.alloc(), &ran.journal), Some(200)),
         None => assert!(rt; false),
     }
+    Ok(())
+}
+
+#[test]
+fn the_journal_of_a_long_run_is_written_read_and_audited(rt: HostRuntime) -> Result<(), Fail> {
+    let words = ["run", "source", "--journal"];
+    let (outcome, out) = call(&rt, rt.alloc(), &words, &lends(BUMP)).expect(&rt, "memory");
+    assert_eq!(rt; outcome.status, 0);
+    // Each thread loads and changes the variable a hundred times.
+    assert!(rt; outcome.ran.is_some_and(|ran| ran.journal.len() >= 400));
+    let lent = Lent {
+        journal: str::from_utf8(out.bytes())?,
+        ..lends(BUMP)
+    };
+    let words = ["audit", "source", "journal"];
+    let (outcome, out) = call(&rt, rt.alloc(), &words, &lent).expect(&rt, "memory");
+    assert_eq!(rt; outcome.status, 0);
+    assert_eq!(rt; out.bytes(), "audit ok\n".as_bytes());
     Ok(())
 }
