@@ -1,6 +1,7 @@
 //! How a mutator comes to hold an object, and what it reads of it then.
-ghost use Rattle.std.specs.Prelude.{◌≡◌, ◌+◌, ◌<◌, [], ◌∷◌, IsSome};
+ghost use Rattle.std.specs.Prelude.{◌≡◌, ◌≢◌, ◌+◌, ◌<◌, [], ◌∷◌, IsSome};
 ghost use Rattle.st_layout.specs.declared.limits.TheConstants.{MOST_FIELDS};
+ghost use Rattle.st_layout.specs.Packed.{high_half, low_half};
 ghost use Rattle.st_rule.specs.declared.views.Phase.TheVariants.{Inside};
 ghost use Rattle.st_rule.specs.Draws.{heap_seen};
 ghost use Rattle.st_rule.specs.Seats.{IsSeatOf, IsFair, HoldsNothing};
@@ -32,16 +33,27 @@ pub(crate) fn lock<J: Judge, R: Wait>(
         match shared.lock(seat, obj, stamp) {
             Ok(()) => return stamp,
             Err(found) => {
-                if lo(found) == 0 {
-                    // Nobody holds it, and its stamp is another.
-                    stamp = hi(found) as u32;
-                } else {
+                stamp = next_stamp(stamp, found);
+                if lo(found) != 0 {
                     thread::yield_now();
                 }
             }
         }
     }
     unreachable!()
+}
+
+/// The stamp that the next try is made with, where a try with this one found this header. Where nobody holds the object the try was refused for its
+/// stamp alone, so the next takes the header's: a try that kept its own would be refused for ever once the object was changed after a launch.
+fn next_stamp(stamp: u32, found: u64) -> u32
+    ensures free { low_half found ≡ 0 → result ≡ high_half found }
+    ensures held { low_half found ≢ 0 → result ≡ stamp }
+{
+    if lo(found) == 0 {
+        hi(found) as u32
+    } else {
+        stamp
+    }
 }
 
 /// Reads a field of the held object.
