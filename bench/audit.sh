@@ -8,11 +8,7 @@
 # Run it at any place of the repository:  sh bench/audit.sh
 . "$(dirname "$0")/scratch.sh"
 
-crates='st_events st_resolved st_check_meaning st_eval st_thread_meaning st_mutator st_lex st_charts st_ast st_grammar st_grammar_laws st_parse st_types st_limit_laws st_texts st_source st_audit'
-copy $crates
-for crate in $crates; do
-    grep -E "^$crate( [a-z_=0-9]+)*:" "$top/crates.txt" >> "$scratch/crates.txt"
-done
+take st_source st_audit
 echo 'auditbench: st_events st_resolved st_check_meaning st_thread_meaning st_eval st_mutator st_lex st_ast st_types st_source st_audit anyhow' >> "$scratch/crates.txt"
 program=$scratch/crates/auditbench
 mkdir -p "$program/src"

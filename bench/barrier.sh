@@ -7,15 +7,14 @@
 # With the name of an older state, sh bench/barrier.sh REVISION takes st_rule, st_gate and st_barrier as they were then.
 . "$(dirname "$0")/scratch.sh"
 
-copy st_events st_layout st_rule st_gate st_barrier
+take st_barrier
 if [ $# -gt 0 ]; then
     for crate in st_rule st_gate st_barrier; do
         rm -rf "$scratch/crates/$crate/src" "$scratch/crates/$crate/specs" "$scratch/crates/$crate/proofs"
         git -C "$top" archive "$1" "crates/$crate/src" "crates/$crate/specs" "crates/$crate/proofs" | tar -x -C "$scratch"
     done
 fi
-grep -E '^(st_events|st_layout|st_rule|st_gate|st_barrier)[ :]' "$top/crates.txt" > "$scratch/crates.txt"
-printf 'barrierbench may_wait=12: st_events st_rule st_gate st_barrier\n' >> "$scratch/crates.txt"
+echo 'barrierbench may_wait=12: st_events st_rule st_gate st_barrier' >> "$scratch/crates.txt"
 printf 'Handles allowed: Threads, Wait.\n' > "$scratch/HANDLES"
 program=$scratch/crates/barrierbench
 mkdir -p "$program/src" "$program/specs" "$program/proofs"

@@ -7,8 +7,8 @@
 # Run it at any place of the repository:  sh bench/eval.sh
 . "$(dirname "$0")/scratch.sh"
 
-copy st_events st_resolved st_check_meaning st_eval
-printf 'st_events:\nst_program: st_events sqlite_items\nst_meaning: st_events st_resolved\nst_eval: st_events st_resolved st_check_meaning sqlite_items\nevalbench: st_events st_resolved st_eval anyhow\n' > "$scratch/crates.txt"
+take st_eval
+echo 'evalbench: st_events st_resolved st_eval anyhow' >> "$scratch/crates.txt"
 program=$scratch/crates/evalbench
 mkdir -p "$program/src"
 

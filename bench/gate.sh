@@ -6,9 +6,8 @@
 # Run it at any place of the repository:  sh bench/gate.sh
 . "$(dirname "$0")/scratch.sh"
 
-copy st_events st_layout st_rule st_gate
-printf 'st_events:\nst_layout:\nst_rule: st_events st_layout atomic_table\nst_gate may_wait=6: st_events st_layout st_rule\n' > "$scratch/crates.txt"
-printf 'gatebench may_wait=20: st_events st_rule st_gate\n' >> "$scratch/crates.txt"
+take st_gate
+echo 'gatebench may_wait=20: st_events st_rule st_gate' >> "$scratch/crates.txt"
 program=$scratch/crates/gatebench
 mkdir -p "$program/src" "$program/proofs/gates/visit" "$program/proofs/gates/close_many"
 

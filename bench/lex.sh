@@ -5,8 +5,8 @@
 # Run it at any place of the repository:  sh bench/lex.sh
 . "$(dirname "$0")/scratch.sh"
 
-copy st_events st_lex
-printf 'st_events:\nst_lex: st_events thiserror\nlexbench: st_lex anyhow\n' > "$scratch/crates.txt"
+take st_lex
+echo 'lexbench: st_lex anyhow' >> "$scratch/crates.txt"
 
 mkdir -p "$scratch/crates/lexbench/src"
 cat > "$scratch/crates/lexbench/src/main.rt" <<'END'

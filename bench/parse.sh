@@ -7,8 +7,7 @@
 # Run it at any place of the repository:  sh bench/parse.sh
 . "$(dirname "$0")/scratch.sh"
 
-copy st_events st_resolved st_lex st_charts st_ast st_grammar st_grammar_laws st_parse
-grep -E '^(st_events|st_resolved|st_lex|st_charts|st_ast|st_grammar|st_grammar_laws|st_parse):' "$top/crates.txt" > "$scratch/crates.txt"
+take st_parse
 echo 'parsebench: st_lex st_parse anyhow' >> "$scratch/crates.txt"
 
 mkdir -p "$scratch/crates/parsebench/src"

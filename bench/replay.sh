@@ -5,8 +5,8 @@
 # Run it at any place of the repository:  sh bench/replay.sh
 . "$(dirname "$0")/scratch.sh"
 
-copy st_events
-printf 'st_events:\nreplaybench: st_events anyhow\n' > "$scratch/crates.txt"
+take st_events
+echo 'replaybench: st_events anyhow' >> "$scratch/crates.txt"
 
 mkdir -p "$scratch/crates/replaybench/src"
 cat > "$scratch/crates/replaybench/src/main.rt" <<'END'

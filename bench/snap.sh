@@ -6,8 +6,8 @@
 # Run it at any place of the repository:  sh bench/snap.sh
 . "$(dirname "$0")/scratch.sh"
 
-copy st_events st_snap tests_snap
-printf 'st_events:\nst_snap: st_events\nst_snap_driver: st_events st_snap\nsnapbench: st_events tests_snap anyhow\n' > "$scratch/crates.txt"
+take tests_snap
+echo 'snapbench: st_events tests_snap anyhow' >> "$scratch/crates.txt"
 program=$scratch/crates/snapbench
 mkdir -p "$program/src"
 

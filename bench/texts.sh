@@ -8,11 +8,7 @@
 # Run it at any place of the repository:  sh bench/texts.sh
 . "$(dirname "$0")/scratch.sh"
 
-crates='st_events st_texts st_journal st_report'
-copy $crates
-for crate in $crates; do
-    grep -E "^$crate( [a-z_=0-9]+)*:" "$top/crates.txt" >> "$scratch/crates.txt"
-done
+take st_journal st_report
 echo 'textsbench: st_events st_journal st_report anyhow' >> "$scratch/crates.txt"
 program=$scratch/crates/textsbench
 mkdir -p "$program/src"

@@ -8,11 +8,7 @@
 # Run it at any place of the repository:  sh bench/types.sh
 . "$(dirname "$0")/scratch.sh"
 
-crates='st_events st_resolved st_check_meaning st_thread_meaning st_lex st_charts st_ast st_grammar st_grammar_laws st_parse st_types st_limit_laws st_texts st_source'
-copy $crates
-for crate in $crates; do
-    grep -E "^$crate( [a-z_=0-9]+)*:" "$top/crates.txt" >> "$scratch/crates.txt"
-done
+take st_source
 echo 'typesbench: st_lex st_parse st_source anyhow' >> "$scratch/crates.txt"
 
 mkdir -p "$scratch/crates/typesbench/src"
